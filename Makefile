@@ -1,0 +1,9 @@
+# make run: prove, build and run the program on its example; make test: the gate.
+.PHONY: run test
+
+run:
+	rt check labelplan
+	target/bin/labelplan crates/labelplan/stdin
+
+test:
+	.ci/run

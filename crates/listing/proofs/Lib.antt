@@ -1,0 +1,5 @@
+pub mod Rising
+pub mod Walking
+pub mod Present
+pub mod Adding
+pub mod Accepting

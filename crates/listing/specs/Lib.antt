@@ -1,0 +1,3 @@
+pub mod Neighbours
+pub mod Numbers
+pub mod Lists

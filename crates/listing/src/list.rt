@@ -1,0 +1,15 @@
+ghost use mathlib.Core.Path.{_≡_};
+ghost use mathlib.Core.Bool.{true};
+ghost use Rattle.std.specs.Of.Vec.{vec-items};
+ghost use Rattle.listing.specs.Numbers.{distinct};
+use geometry::Label;
+
+pub mod adding;
+pub mod nearest;
+
+// Labels in the order of adding, no number twice.
+#[derive(Drop)]
+pub struct LabelList {
+    labels: Vec<Label>,
+    ghost once: { distinct (vec-items labels) ≡ true },
+}
