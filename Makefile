@@ -3,7 +3,7 @@
 
 run:
 	rt check labelplan
-	target/bin/labelplan crates/labelplan/stdin
+	target/bin/labelplan examples/approach.plan
 
 test:
 	.ci/run
