@@ -1,2 +1,3 @@
 pub mod Same
 pub mod Boxes
+pub mod Present

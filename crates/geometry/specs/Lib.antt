@@ -1,2 +1,3 @@
 pub mod Refusals
 pub mod Plane
+pub mod Numbers

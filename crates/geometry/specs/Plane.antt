@@ -1,11 +1,13 @@
 -- Places, labels and boxes by their numbers.
 use mathlib.Core.Path.{_≡_}
 use mathlib.Core.Bool.{Bool, true, false, cond, _&&_}
-use Prim.Native.Nat.{ℕ}
-use lib.IntN.{ℤ, natAbs, _-ℤ_}
-use lib.Signed.{ltZ, leZ}
+use Prim.Native.Nat.{ℕ, _≤_, max, min}
+use native.Mathlib.Omega.{arith}
+use lib.IntN.{ℤ, pos, negsuc, natAbs, _-ℤ_}
+use lib.Signed.{ltZ, leZ, _≤ℤ_}
 use lib.Dec.{leb}
 use Rattle.std.specs.Numbers.{minZ, maxZ}
+use Rattle.std.proofs.shelf.Signed.{ints, clamps}
 use Rattle.std.specs.declared.result.Result.{Result}
 use Rattle.std.specs.declared.result.Result.the-variants.{Ok, Err}
 use Rattle.geometry.specs.declared.place.Place.{Place}
@@ -23,52 +25,60 @@ inRange z = leb (natAbs z) 1000000
 abbrev pub numbered : ℕ → Bool
 numbered n = leb 1 n && leb n 999999999
 
--- a result by the numbers that its value shows
-abbrev pub shown : {A B E : Type 0} → (A → B) → Result A E → Result B E
-shown f (Ok a) = Ok (f a)
-shown f (Err e) = Err e
+-- the nearest coordinate that lies on the map
+abbrev pub onMap : ℤ → ℤ
+onMap z = maxZ (negsuc 999999) (minZ z (pos 1000000))
+
+pub on-map : (z : ℤ) → natAbs (onMap z) ≤ 1000000
+on-map z = omega (arith, ints, clamps)
+
+-- the place at x and y; it has these coordinates wherever both lie on the map
+unfoldable pub placeAt : ℤ → ℤ → Place
+placeAt x y = record { x = onMap x; y = onMap y; near = (on-map x, on-map y) }
 
 -- the place at x and y, or the refusal
-abbrev pub placeFrom : ℤ → ℤ → Result (ℤ × ℤ) Refusal
-placeFrom x y = cond (inRange x && inRange y) (Ok (x, y)) (Err (refusal BadPlace 0))
+abbrev pub placeFrom : ℤ → ℤ → Result Place Refusal
+placeFrom x y = cond (inRange x && inRange y) (Ok (placeAt x y)) (Err (refusal BadPlace 0))
 
-abbrev pub placeShown : Result Place Refusal → Result (ℤ × ℤ) Refusal
-placeShown r = shown (λ p. (p .x, p .y)) r
+-- the nearest number that a label can have
+abbrev pub labelNumber : ℕ → ℕ
+labelNumber n = max 1 (min n 999999999)
+
+pub label-number : (n : ℕ) → (1 ≤ labelNumber n) × (labelNumber n ≤ 999999999)
+label-number n = (omega arith, omega arith)
+
+-- the label of number n at x and y; it has these numbers wherever all are in range
+unfoldable pub labelAt : ℕ → ℤ → ℤ → Label
+labelAt n x y = record { number = labelNumber n; place = placeAt x y; numbered = label-number n }
 
 -- the label of number n at x and y, or the refusal: of the number first
-abbrev pub labelFrom : ℕ → ℤ → ℤ → Result (ℕ × ℤ × ℤ) Refusal
-labelFrom n x y = cond (numbered n) (cond (inRange x && inRange y) (Ok (n, x, y)) (Err (refusal BadPlace 0))) (Err (refusal BadNumber 0))
-
--- a label by its number and coordinates
-abbrev pub numbersOf : Label → ℕ × ℤ × ℤ
-numbersOf l = (l .number, l .place .x, l .place .y)
-
-abbrev pub labelShown : Result Label Refusal → Result (ℕ × ℤ × ℤ) Refusal
-labelShown r = shown numbersOf r
-
--- the four sides of a box
-pub record Sides : Type 0 where
-  pub west : ℤ
-  pub south : ℤ
-  pub east : ℤ
-  pub north : ℤ
-
-abbrev pub four : ℤ → ℤ → ℤ → ℤ → Sides
-four w s e n = record { west = w; south = s; east = e; north = n }
-
-abbrev pub sides : Rect → Sides
-sides b = four (b .west) (b .south) (b .east) (b .north)
+abbrev pub labelFrom : ℕ → ℤ → ℤ → Result Label Refusal
+labelFrom n x y = cond (numbered n) (cond (inRange x && inRange y) (Ok (labelAt n x y)) (Err (refusal BadPlace 0))) (Err (refusal BadNumber 0))
 
 -- from low to high, both on the map
 abbrev pub span : ℤ → ℤ → Bool
 span low high = leZ low high && inRange low && inRange high
 
--- the box with these sides, if west ≤ east, south ≤ north and all lie on the map, or the refusal
-abbrev pub sidesFrom : ℤ → ℤ → ℤ → ℤ → Result Sides Refusal
-sidesFrom w s e n = cond (span w e && span s n) (Ok (four w s e n)) (Err (refusal BadBox 0))
+pub up-right : (low high : ℤ) → onMap low ≤ℤ maxZ (onMap low) (onMap high)
+up-right low high = omega (arith, ints, clamps)
 
-abbrev pub sidesShown : Result Rect Refusal → Result Sides Refusal
-sidesShown r = shown sides r
+pub far-on-map : (low high : ℤ) → natAbs (maxZ (onMap low) (onMap high)) ≤ 1000000
+far-on-map low high = omega (arith, ints, clamps)
+
+-- the box with these sides; it has them wherever west ≤ east, south ≤ north and all lie on the map
+unfoldable pub rectAt : ℤ → ℤ → ℤ → ℤ → Rect
+rectAt w s e n = record {
+  west = onMap w;
+  south = onMap s;
+  east = maxZ (onMap w) (onMap e);
+  north = maxZ (onMap s) (onMap n);
+  upright = (up-right w e, up-right s n);
+  near = (on-map w, on-map s, far-on-map w e, far-on-map s n);
+}
+
+-- the box with these sides, or the refusal
+abbrev pub rectFrom : ℤ → ℤ → ℤ → ℤ → Result Rect Refusal
+rectFrom w s e n = cond (span w e && span s n) (Ok (rectAt w s e n)) (Err (refusal BadBox 0))
 
 -- from a to b lies between low and high
 abbrev pub spanning : ℤ → ℤ → ℤ → ℤ → Bool
@@ -82,9 +92,9 @@ holds b p = spanning (b .west) (b .east) (p .x) (p .x) && spanning (b .south) (b
 abbrev pub covering : Rect → Rect → Bool
 covering b c = spanning (b .west) (b .east) (c .west) (c .east) && spanning (b .south) (b .north) (c .south) (c .north)
 
--- the sides of the smallest box around b and c
-abbrev pub joined : Rect → Rect → Sides
-joined b c = four (minZ (b .west) (c .west)) (minZ (b .south) (c .south)) (maxZ (b .east) (c .east)) (maxZ (b .north) (c .north))
+-- the smallest box around b and c
+abbrev pub around : Rect → Rect → Rect
+around b c = rectAt (minZ (b .west) (c .west)) (minZ (b .south) (c .south)) (maxZ (b .east) (c .east)) (maxZ (b .north) (c .north))
 
 -- r lies around b and c, and in every box that does
 pub record Smallest (r b c : Rect) : Type 0 where

@@ -1,3 +1,2 @@
 pub mod Neighbours
-pub mod Numbers
 pub mod Lists

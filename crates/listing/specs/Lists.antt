@@ -1,7 +1,7 @@
 -- What the calls on a list of labels give and leave.
 use mathlib.Core.Path.{_≡_}
 use mathlib.Core.Bool.{Bool, true, cond, _&&_}
-use mathlib.Core.List.{List, [], _∷_, _++_, map}
+use mathlib.Core.List.{List, [], _∷_, _++_}
 use Prim.Native.Nat.{ℕ}
 use lib.IntN.{ℤ}
 use lib.Dec.{leb}
@@ -15,26 +15,26 @@ use Rattle.geometry.specs.declared.label.Label.{Label}
 use Rattle.geometry.specs.declared.refusal.Refusal.{Refusal}
 use Rattle.geometry.specs.declared.refusal.Reason.the-variants.{BadCount, BadPlace, NumberPresent}
 use Rattle.geometry.specs.Refusals.{refusal}
-use Rattle.geometry.specs.Plane.{inRange, labelFrom, numbersOf}
+use Rattle.geometry.specs.Plane.{inRange, labelFrom}
 use Rattle.listing.specs.declared.failure.Failure.{Failure}
 use Rattle.listing.specs.declared.failure.Failure.the-variants.{Refused, NoMemory}
 use Rattle.listing.specs.declared.list.LabelList.{LabelList}
-use Rattle.listing.specs.Numbers.{present}
+use Rattle.geometry.specs.Numbers.{present}
 
 -- the labels of a list, in the order of adding
 abbrev pub labelsOf : LabelList → List Label
 labelsOf l = vec-items (l .labels)
 
 -- the list with a label of number n at x and y at its end, or the refusal
-abbrev pub adding : List Label → ℕ → ℤ → ℤ → Result (List (ℕ × ℤ × ℤ)) Refusal
+abbrev pub adding : List Label → ℕ → ℤ → ℤ → Result (List Label) Refusal
 adding ls n x y = elim (labelFrom n x y) [
-  | Ok l ↦ cond (present n ls) (Err (refusal NumberPresent 0)) (Ok (map numbersOf ls ++ l ∷ []))
+  | Ok l ↦ cond (present n ls) (Err (refusal NumberPresent 0)) (Ok (ls ++ l ∷ []))
   | Err e ↦ Err e
 ]
 
 -- an addition ends as defined; a refusal and want of memory leave the list as it was
 abbrev pub Added : List Label → List Label → ℕ → ℤ → ℤ → Result (Unit {0}) Failure → Type 0
-Added before after n x y (Ok _) = Ok (map numbersOf after) ≡ adding before n x y
+Added before after n x y (Ok _) = Ok after ≡ adding before n x y
 Added before after n x y (Err (Refused e)) = (Err e ≡ adding before n x y) × (after ≡ before)
 Added before after n x y (Err NoMemory) = (isOk (adding before n x y) ≡ true) × (after ≡ before)
 

@@ -1,7 +1,7 @@
 ghost use mathlib.Core.Path.{_≡_};
 ghost use mathlib.Core.Bool.{true};
 ghost use Rattle.std.specs.Of.Vec.{vec-items};
-ghost use Rattle.listing.specs.Numbers.{distinct};
+ghost use Rattle.geometry.specs.Numbers.{distinct};
 use geometry::Label;
 
 pub mod adding;

@@ -1,5 +1,5 @@
 ghost use mathlib.Core.Path.{_≡_};
-ghost use Rattle.geometry.specs.Plane.{labelShown, labelFrom};
+ghost use Rattle.geometry.specs.Plane.{labelFrom};
 use super::Label;
 use crate::place::Place;
 use crate::refusal::Reason;
@@ -7,7 +7,7 @@ use crate::refusal::Refusal;
 
 impl Label {
     pub fn new(number: u32, x: i32, y: i32) -> Result<Label, Refusal>
-        ensures { λ r. ⌜ labelShown r ≡ labelFrom number x y ⌝ }
+        ensures { λ r. ⌜ r ≡ labelFrom number x y ⌝ }
     {
         if number < 1 || number > 999_999_999 {
             return Err(Refusal {

@@ -1,5 +1,5 @@
 ghost use mathlib.Core.Path.{_≡_};
-ghost use Rattle.geometry.specs.Plane.{placeShown, placeFrom, inRange};
+ghost use Rattle.geometry.specs.Plane.{placeFrom, inRange};
 use super::Place;
 use crate::refusal::Reason;
 use crate::refusal::Refusal;
@@ -15,7 +15,7 @@ pub(crate) fn in_range(z: i32) -> bool
 
 impl Place {
     pub fn new(x: i32, y: i32) -> Result<Place, Refusal>
-        ensures { λ r. ⌜ placeShown r ≡ placeFrom x y ⌝ }
+        ensures { λ r. ⌜ r ≡ placeFrom x y ⌝ }
     {
         if !in_range(x) || !in_range(y) {
             return Err(Refusal {

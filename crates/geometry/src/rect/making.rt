@@ -1,5 +1,5 @@
 ghost use mathlib.Core.Path.{_≡_};
-ghost use Rattle.geometry.specs.Plane.{sidesShown, sidesFrom, span, sides, joined, Smallest};
+ghost use Rattle.geometry.specs.Plane.{rectFrom, span, around, Smallest};
 use super::Rect;
 use crate::place::making::in_range;
 use crate::refusal::Reason;
@@ -14,7 +14,7 @@ fn is_span(low: i32, high: i32) -> bool
 
 impl Rect {
     pub fn new(west: i32, south: i32, east: i32, north: i32) -> Result<Rect, Refusal>
-        ensures { λ r. ⌜ sidesShown r ≡ sidesFrom west south east north ⌝ }
+        ensures { λ r. ⌜ r ≡ rectFrom west south east north ⌝ }
     {
         if !is_span(west, east) || !is_span(south, north) {
             return Err(Refusal {
@@ -32,7 +32,7 @@ impl Rect {
 
     // The smallest box around both.
     pub fn around(a: &Rect, b: &Rect) -> Rect
-        ensures sides { λ r. ⌜ sides r ≡ joined (now (a .entry)) (now (b .entry)) ⌝ }
+        ensures value { λ r. ⌜ r ≡ around (now (a .entry)) (now (b .entry)) ⌝ }
         ensures smallest { λ r. ⌜ Smallest r (now (a .entry)) (now (b .entry)) ⌝ }
     {
         Rect {

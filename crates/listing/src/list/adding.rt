@@ -1,6 +1,6 @@
 ghost use mathlib.Core.Path.{_≡_};
 ghost use mathlib.Core.List.{[]};
-ghost use Rattle.listing.specs.Numbers.{present};
+ghost use Rattle.geometry.specs.Numbers.{present};
 ghost use Rattle.listing.specs.Lists.{labelsOf, Added};
 use super::LabelList;
 use crate::failure::Failure;

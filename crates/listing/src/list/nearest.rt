@@ -6,7 +6,7 @@ ghost use Rattle.std.specs.Of.Vec.{vec-items};
 ghost use Rattle.std.specs.Vec.{made};
 ghost use Rattle.std.specs.Results.{Cases};
 ghost use Rattle.std.specs.declared.option.Option.the-variants.{Some, None};
-ghost use Rattle.geometry.specs.declared.place.Place.{Place};
+ghost use Rattle.geometry.specs.Plane.{placeAt};
 ghost use Rattle.listing.specs.declared.failure.Failure.the-variants.{Refused, NoMemory};
 ghost use Rattle.listing.specs.Neighbours.{found, nearer, nearest, listing};
 ghost use Rattle.listing.specs.Lists.{labelsOf, refusedListing};
@@ -90,7 +90,7 @@ impl LabelList {
         k: u32,
     ) -> Result<Vec<Found<M::Distance>>, Failure>
         ensures refusal { λ r. ⌜ Cases r (λ _. refusedListing x y k ≡ None) (λ f. elim f [ Refused e ↦ refusedListing x y k ≡ Some e | NoMemory ↦ refusedListing x y k ≡ None ]) ⌝ }
-        ensures listing { λ r. ⌜ ((from : Place) → from .x ≡ x → from .y ≡ y → made r (λ v. vec-items v ≡ listing (Distance·Ranked .precedes) (dist (now (measure .entry)) from) k (labelsOf (now (self .entry))))) ⌝ }
+        ensures listing { λ r. ⌜ made r (λ v. vec-items v ≡ listing (Distance·Ranked .precedes) (dist (now (measure .entry)) (placeAt x y)) k (labelsOf (now (self .entry)))) ⌝ }
     {
         if k < 1 || k > 64 {
             return Err(Failure::Refused(Refusal {

@@ -1,6 +1,6 @@
 use mathlib.Core.Path.{_≡_, sym, ap, subst, _∙_}
 use mathlib.Core.Bool.{true, false, cond}
-use mathlib.Core.List.{List, [], _∷_, _++_, map}
+use mathlib.Core.List.{List, [], _∷_, _++_}
 use mir.Syntax.{w32}
 use mir.Val.{SFits}
 use Rattle.std.specs.Of.Vec.{vec-items}
@@ -8,10 +8,11 @@ use Rattle.std.specs.Results.{isOk}
 use Rattle.std.specs.declared.result.Result.the-variants.{Ok}
 use Rattle.std.proofs.shelf.Signed.{toZ-ofZ}
 use Rattle.geometry.specs.declared.label.Label.{Label}
-use Rattle.geometry.specs.Plane.{labelFrom, labelShown, numbersOf}
-use Rattle.listing.specs.Numbers.{present}
+use Rattle.geometry.specs.Plane.{labelFrom}
+use Rattle.geometry.specs.Numbers.{present}
 use Rattle.listing.specs.Lists.{labelsOf}
-use Rattle.listing.proofs.Adding.{adding-fits, label-number, distinct-after}
+use Rattle.listing.proofs.Adding.{adding-fits, distinct-after}
+use Rattle.geometry.proofs.Boxes.{label-told}
 use Rattle.listing.proofs.list.LabelList.add.Needs as need
 
 pub ghost-self : need.ghost-self
@@ -20,9 +21,9 @@ ghost-self c =
     let l = c .in-Continue-label .label in
     let fx : SFits w32 (c .args .x) = c .fits .x in
     let fy : SFits w32 (c .args .y) = c .fits .y in
-    let told : labelShown (Ok l) ≡ labelFrom (c .args .number) (c .args .x) (c .args .y) = simp toZ-ofZ at (c .in-Continue-label .ensures tt) in
+    let told : Ok l ≡ labelFrom (c .args .number) (c .args .x) (c .args .y) = simp toZ-ofZ at (c .in-Continue-label .ensures tt) in
     let absent : present (l .number) before ≡ false =
-    ap (λ n. present n before) (label-number (c .args .number) (c .args .x) (c .args .y) l told) ∙ ap (present (c .args .number)) (sym (c .as-slice .ensures .value)) ∙ sym (c .if-is-present .ensures tt) in
+    ap (λ n. present n before) (label-told l (c .args .number) (c .args .x) (c .args .y) told) ∙ ap (present (c .args .number)) (sym (c .as-slice .ensures .value)) ∙ sym (c .if-is-present .ensures tt) in
     (distinct-after before _ (isOk (c .push .result)) l (c .push .ensures .items) absent (c .args .self .now .once), tt)
 
 pub returns : need.returns
@@ -31,6 +32,6 @@ returns c =
     let l = c .in-Continue-label .label in
     let fx : SFits w32 (c .args .x) = c .fits .x in
     let fy : SFits w32 (c .args .y) = c .fits .y in
-    let told : labelShown (Ok l) ≡ labelFrom (c .args .number) (c .args .x) (c .args .y) = simp toZ-ofZ at (c .in-Continue-label .ensures tt) in
+    let told : Ok l ≡ labelFrom (c .args .number) (c .args .x) (c .args .y) = simp toZ-ofZ at (c .in-Continue-label .ensures tt) in
     let absent : present (c .args .number) before ≡ false = ap (present (c .args .number)) (sym (c .as-slice .ensures .value)) ∙ sym (c .if-is-present .ensures tt) in
-    ap (λ m. Ok (map numbersOf m)) (c .in-Continue-push .ensures tt .items) ∙ adding-fits before (c .args .number) (c .args .x) (c .args .y) l told absent
+    ap (λ m. Ok m) (c .in-Continue-push .ensures tt .items) ∙ adding-fits before (c .args .number) (c .args .x) (c .args .y) l told absent

@@ -4,37 +4,36 @@ use native.Mathlib.Omega.{arith}
 use mir.Syntax.{w32}
 use mir.Val.{SFits}
 use Rattle.std.specs.Of.Vec.{vec-items}
-use Rattle.std.specs.declared.result.Result.the-variants.{Ok}
 use Rattle.std.proofs.shelf.Signed.{toZ-ofZ}
 use Rattle.std.proofs.shelf.Results.{err-from-errBy}
-use Rattle.geometry.specs.Plane.{placeFrom, placeShown}
+use Rattle.geometry.proofs.Boxes.{place-told}
 use Rattle.listing.specs.Neighbours.{found, nearest, listing}
-use Rattle.listing.proofs.Accepting.{accepted, only-place}
+use Rattle.listing.proofs.Accepting.{accepted}
 use Rattle.listing.proofs.list.LabelList.nearest.Needs as need
 
 pub returns-in-Break-take-nearest : need.returns-in-Break-take-nearest
 returns-in-Break-take-nearest g c =
     let fx : SFits w32 (c .args .x) = c .fits .x in
     let fy : SFits w32 (c .args .y) = c .fits .y in
-    let told : placeShown (Ok (c .in-Continue-from .from)) ≡ placeFrom (c .args .x) (c .args .y) = simp toZ-ofZ at (c .in-Continue-from .ensures tt) in
-    let fine = accepted (c .args .x) (c .args .y) (c .in-Continue-from .from) told (c .args .k) (omega arith) (omega arith) in
+    let told = place-told (c .in-Continue-from .from) (c .args .x) (c .args .y) (simp toZ-ofZ at (c .in-Continue-from .ensures tt)) in
+    let fine = accepted (c .args .x) (c .args .y) (c .args .k) (told .0) (omega arith) (omega arith) in
     let p = err-from-errBy (c .from-residual-in-Break-take-nearest .result) (c .from-residual-in-Break-take-nearest .ensures .1) in
-    rw (p .1, p .2) (record { refusal = fine; listing = λ from x y. tt })
+    rw (p .1, p .2) (record { refusal = fine; listing = tt })
 
 pub returns : need.returns
 returns g c =
     let fx : SFits w32 (c .args .x) = c .fits .x in
     let fy : SFits w32 (c .args .y) = c .fits .y in
-    let told : placeShown (Ok (c .in-Continue-from .from)) ≡ placeFrom (c .args .x) (c .args .y) = simp toZ-ofZ at (c .in-Continue-from .ensures tt) in
-    let fine = accepted (c .args .x) (c .args .y) (c .in-Continue-from .from) told (c .args .k) (omega arith) (omega arith) in
+    let told = place-told (c .in-Continue-from .from) (c .args .x) (c .args .y) (simp toZ-ofZ at (c .in-Continue-from .ensures tt)) in
+    let fine = accepted (c .args .x) (c .args .y) (c .args .k) (told .0) (omega arith) (omega arith) in
     let lt = g .Distance·Ranked .precedes in
     let k = c .args .k in
     let to = g .M·Measure .dist (c .args .measure .now) in
     let labels = vec-items (c .args .self .now .labels) in
     record {
       refusal = fine;
-      listing = λ from x y.
+      listing =
           c .in-Continue-take-nearest .ensures tt
           ∙ ap (nearest lt k) (c .as-mut-slice .ensures .value ∙ c .in-Continue-all .ensures tt ∙ ap (map (found (to (c .in-Continue-from .from)))) (c .as-slice .ensures .value))
-          ∙ ap (λ p. listing lt (to p) k labels) (only-place (c .args .x) (c .args .y) (c .in-Continue-from .from) told from x y);
+          ∙ ap (λ p. listing lt (to p) k labels) (told .1);
     }

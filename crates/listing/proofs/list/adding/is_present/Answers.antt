@@ -6,8 +6,8 @@ use Prim.Native.Nat.{_+_}
 use lib.ListN.{drop}
 use Rattle.std.proofs.shelf.Lists.{drop-all}
 use Rattle.std.proofs.shelf.Ways.{tells}
-use Rattle.listing.specs.Numbers.{present}
-use Rattle.listing.proofs.Present.{present-more}
+use Rattle.geometry.specs.Numbers.{present}
+use Rattle.geometry.proofs.Present.{present-more}
 use Rattle.listing.proofs.list.adding.is_present.Needs as need
 
 pub returns-then-number : need.returns-then-number

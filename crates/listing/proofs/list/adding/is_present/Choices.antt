@@ -1,6 +1,6 @@
 use mathlib.Core.Path.{_≡_}
 use lib.ListN.{drop}
-use Rattle.listing.specs.Numbers.{present}
+use Rattle.geometry.specs.Numbers.{present}
 use Rattle.listing.proofs.list.adding.is_present.Given as given
 
 abbrev pub Inv-loop-l : given.InvT-loop-l

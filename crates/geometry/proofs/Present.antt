@@ -10,9 +10,9 @@ use lib.ListN.{length, getD, drop}
 use lib.Seq.{drop-cons}
 use Rattle.std.proofs.shelf.Tests.{both-ways}
 use Rattle.std.proofs.shelf.Ways.{tells}
 use Rattle.geometry.proofs.Boxes.{and-both}
 use Rattle.geometry.specs.declared.label.Label.{Label}
-use Rattle.listing.specs.Numbers.{present, distinct}
+use Rattle.geometry.specs.Numbers.{present, distinct}
 
 pub present-more : (n : ℕ) (ls : List Label) (i : ℕ) (l : Label) → i < length ls → l ≡ getD ls i l → present n (drop i ls) ≡ (eqb (l .number) n || present n (drop (i + 1) ls))
 present-more n ls i l h e = ap (present n) (drop-cons ls i l h) ∙ ap (λ k. eqb (k .number) n || present n (drop (suc i) ls)) (sym e) ∙ ap (λ j. eqb (l .number) n || present n (drop j ls)) (sym (add-one i))
