@@ -1,0 +1,4 @@
+pub mod Table
+pub mod Laws
+pub mod Opening
+pub mod Frames
