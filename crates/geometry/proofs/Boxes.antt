@@ -21,7 +21,7 @@ pub and-both : (a b : Bool) → (a && b) ≡ true → (a ≡ true) × (b ≡ tru
 and-both true b h = (refl, h)
 and-both false b h = absurd (both-ways false refl h)
 
-and-made : (a b : Bool) → a ≡ true → b ≡ true → (a && b) ≡ true
+pub and-made : (a b : Bool) → a ≡ true → b ≡ true → (a && b) ≡ true
 and-made true b p q = q
 and-made false b p q = p
 

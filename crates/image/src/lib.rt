@@ -1,0 +1,4 @@
+// Images: node stores read from bytes.
+pub fn nothing() -> u8 {
+    0
+}
