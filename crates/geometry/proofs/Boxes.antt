@@ -101,6 +101,18 @@ rect-from r w s e n p q x y =
     let same : (span (r .west) (r .east) && span (r .south) (r .north)) ≡ (span w e && span s n) = λ i. span (p i) (x i) && span (q i) (y i) in
     ap (λ b. Ok b) (rect-is r w s e n p q x y) ∙ sym (cond-true (span w e && span s n) _ _ (sym same ∙ and-made _ _ across along))
 
+-- what is in range is taken as it is
+pub rect-at : (w s e n : ℤ) → span w e ≡ true → span s n ≡ true → (rectAt w s e n .west ≡ w) × (rectAt w s e n .south ≡ s) × (rectAt w s e n .east ≡ e) × (rectAt w s e n .north ≡ n)
+unfolding rectAt
+rect-at w s e n h k =
+    let a = spanned w e h in
+    let b = spanned s n k in
+    (on-map-same w (a .1), on-map-same s (b .1), far-same w e (a .0) (a .1) (a .2), far-same s n (b .0) (b .1) (b .2))
+
+pub label-at : (n : ℕ) (x y : ℤ) → numbered n ≡ true → natAbs x ≤ 1000000 → natAbs y ≤ 1000000 → (labelAt n x y .number ≡ n) × (labelAt n x y .place .x ≡ x) × (labelAt n x y .place .y ≡ y)
+unfolding labelAt placeAt
+label-at n x y h k l = (grind (arith, tells), on-map-same x k, on-map-same y l)
+
 -- the same along one axis
 axis-first : (a b c d low high : ℤ) → low ≡ minZ a c → high ≡ maxZ b d → spanning low high a b ≡ true
 axis-first a b c d low high p q = grind (arith, ints, clamps)

@@ -3,3 +3,8 @@ pub mod Firsts
 pub mod Ranges
 pub mod Tables
 pub mod Repeats
+pub mod Passing
+pub mod Leaders
+pub mod Numbering
+pub mod Lawfulness
+pub mod Exactly

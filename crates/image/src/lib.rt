@@ -1,4 +1,1 @@
-// Images: node stores read from bytes.
-pub fn nothing() -> u8 {
-    0
-}
+// Images: tables of nodes written as bytes.
