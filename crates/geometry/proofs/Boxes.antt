@@ -56,7 +56,7 @@ unfolding labelAt
 label-is l n x y a b = same-label l (labelAt n x y) (let w = l .numbered in omega arith) b
 
 -- what makes a place, a box or a label accepts its numbers
-in-range : (z : ℤ) → natAbs z ≤ 1000000 → inRange z ≡ true
+pub in-range : (z : ℤ) → natAbs z ≤ 1000000 → inRange z ≡ true
 in-range z h = grind (arith, tells)
 
 pub place-from : (p : Place) (x y : ℤ) → p .x ≡ x → p .y ≡ y → Ok p ≡ placeFrom x y

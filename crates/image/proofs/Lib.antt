@@ -8,3 +8,9 @@ pub mod Leaders
 pub mod Numbering
 pub mod Lawfulness
 pub mod Exactly
+pub mod Written
+pub mod Scanning
+pub mod Queueing
+pub mod Chaining
+pub mod Held
+pub mod Showing

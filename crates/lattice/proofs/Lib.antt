@@ -1,6 +1,9 @@
+pub mod Counting
 pub mod Slots
 pub mod Ranges
 pub mod Refused
+pub mod Fitting
 pub mod Numbering
 pub mod Tree
 pub mod Opened
+pub mod Shows

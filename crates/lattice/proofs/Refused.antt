@@ -1,21 +1,17 @@
--- When a lattice, a box or a label is refused, and what holds when it is not.
-use mathlib.Core.Path.{_≡_, refl, sym, ap, _∙_}
+-- When a lattice is refused, and what holds when it is not.
+use mathlib.Core.Path.{_≡_, refl, sym, _∙_}
 use mathlib.Core.Bool.{Bool, true, false, cond, _&&_}
-use Prim.Native.Nat.{ℕ, _≤_}
+use Prim.Native.Nat.{ℕ}
 use native.Mathlib.Omega.{arith}
 use lib.IntN.{ℤ, natAbs}
-use Rattle.std.specs.declared.option.Option.{Option}
 use Rattle.std.specs.declared.option.Option.the-variants.{Some, None}
-use Rattle.std.specs.declared.result.Result.the-variants.{Ok, Err}
-use Rattle.std.proofs.shelf.Tests.{leb-true, le-leb, and-parts, and-from, cond-true, cond-false}
+use Rattle.std.proofs.shelf.Tests.{leb-true, and-parts, and-from, cond-true, cond-false}
 use Rattle.std.proofs.shelf.Ways.{tells}
-use Rattle.geometry.specs.declared.label.Label.{Label}
-use Rattle.geometry.specs.declared.rect.Rect.{Rect}
 use Rattle.geometry.specs.declared.refusal.Refusal.{Refusal}
 use Rattle.geometry.specs.declared.refusal.Reason.the-variants.{BadNumber, BadPlace}
 use Rattle.geometry.specs.Refusals.{refusal}
-use Rattle.geometry.specs.Plane.{inRange, numbered, span, labelAt, rectAt, labelFrom, rectFrom}
-use Rattle.lattice.specs.Grid.{isUpTo, isSized, isReach, isNumbered, refusedGrid, along, Lines, Stepped, Reach, Numbered}
+use Rattle.geometry.specs.Plane.{inRange}
+use Rattle.lattice.specs.Grid.{isSized, isReach, isNumbered, refusedGrid, Lines, Stepped, Reach, Numbered}
 
 module _ (rows columns step : ℕ) (x y : ℤ) (first : ℕ) where
   abbrev placed : Bool
@@ -29,6 +25,10 @@ module _ (rows columns step : ℕ) (x y : ℤ) (first : ℕ) where
 
   pub refuses-none : true ≡ isSized rows columns step → true ≡ isReach x step columns → true ≡ isReach y step rows → true ≡ isNumbered rows columns first → None ≡ refusedGrid rows columns step x y first
   refuses-none s p q n = sym (cond-true (isSized rows columns step) _ _ (sym s) ∙ cond-true placed _ _ (and-from _ _ (sym p) (sym q)) ∙ cond-true (isNumbered rows columns first) _ _ (sym n))
+
+-- equal places are refused alike
+pub none-moved : (rows columns step : ℕ) (x x′ y y′ : ℤ) (first : ℕ) → x ≡ x′ → y ≡ y′ → None ≡ refusedGrid rows columns step x y first → None ≡ refusedGrid rows columns step x′ y′ first
+none-moved rows columns step x x′ y y′ first p q h = h ∙ (λ i. refusedGrid rows columns step (p i) (q i) first)
 
 -- what was not refused passed every test
 none-passes : (s p n : Bool) (a b c : Refusal) → None ≡ cond s (cond p (cond n None (Some a)) (Some b)) (Some c) → (s ≡ true) × (p ≡ true) × (n ≡ true)
@@ -59,30 +59,3 @@ accepted rows columns step x y first h =
       upward = reach y step rows (places .1);
       numbered = (grind (arith, tells), grind (arith, tells));
     }
-
--- a result by a test
-ok-told : {X E : Type 0} (b : Bool) (x v : X) (e : E) → Ok v ≡ cond b (Ok x) (Err e) → v ≡ x
-ok-told true x v e h = cc
-ok-told false x v e h = let z : _≡_ {A = ℕ} 0 1 = cc in absurd (omega arith)
-
-err-never : {X E : Type 0} (b : Bool) (x : X) (d e : E) → b ≡ true → Err d ≡ cond b (Ok x) (Err e) → ⊥
-err-never true x d e t h = let z : _≡_ {A = ℕ} 0 1 = cc in omega arith
-err-never false x d e t h = let z : _≡_ {A = ℕ} 0 1 = cc in omega arith
-
--- a box is made from sides that span
-pub rect-told : (r : Rect) (w s e n : ℤ) → Ok r ≡ rectFrom w s e n → r ≡ rectAt w s e n
-rect-told r w s e n h = ok-told (span w e && span s n) (rectAt w s e n) r _ h
-
-pub rect-never : (f : Refusal) (w s e n : ℤ) → span w e ≡ true → span s n ≡ true → Err f ≡ rectFrom w s e n → ⊥
-rect-never f w s e n p q h = err-never (span w e && span s n) (rectAt w s e n) f _ (and-from _ _ p q) h
-
--- a label is made from a number and a place in range
-module _ (k : ℕ) (x y : ℤ) (low : 1 ≤ k) (high : k ≤ 999999999) (nearx : natAbs x ≤ 1000000) (neary : natAbs y ≤ 1000000) where
-  label-fits : Ok (labelAt k x y) ≡ labelFrom k x y
-  label-fits = sym (cond-true (numbered k) _ _ (and-from _ _ (le-leb 1 k low) (le-leb k 999999999 high)) ∙ cond-true (inRange x && inRange y) _ _ (and-from _ _ (le-leb _ 1000000 nearx) (le-leb _ 1000000 neary)))
-
-  pub label-made : (l : Label) → Ok l ≡ labelFrom k x y → l ≡ labelAt k x y
-  label-made l h = let e = h ∙ sym label-fits in cc
-
-  pub label-never : (f : Refusal) → Err f ≡ labelFrom k x y → ⊥
-  label-never f h = let e = h ∙ sym label-fits in let z : _≡_ {A = ℕ} 0 1 = cc in omega arith

@@ -1,6 +1,6 @@
 -- Twelve slots of which the first n are filled.
 use mathlib.Core.Path.{_≡_, refl, sym, ap, _∙_}
-use mathlib.Core.Bool.{true, false, cond}
+use mathlib.Core.Bool.{cond}
 use mathlib.Core.List.{List, [], _∷_, _++_, map}
 use mathlib.Core.Logic.{⊎-elim}
 use Prim.Native.Nat.{ℕ, zero, suc, _+_, _≤_, _<_}
@@ -15,18 +15,15 @@ use Rattle.std.proofs.shelf.Counted.{length-map-counting, getD-map-counting}
 use Rattle.index.specs.declared.slot.Slot.{Slot}
 use Rattle.index.specs.declared.slot.Slot.the-variants.{Empty}
 use Rattle.lattice.specs.Grid.{firstSlots}
+use Rattle.lattice.proofs.Counting.{all-counted, joined-none, joined-one}
 
--- what holds of each number counted holds of the list made from them
-pub all-counted : {X : Type 0} (P : X → Type 0) (f : ℕ → X) (a n : ℕ) → ((i : ℕ) → a ≤ i → i < a + n → P (f i)) → All P (map f (counting a n))
-all-counted P f a zero h = tt
-all-counted P f a (suc n) h = (h a (omega arith) (omega arith), all-counted P f (a + 1) n (λ i p q. h i (omega arith) (omega arith)))
-
+-- there are twelve
 pub first-length : (n : ℕ) (f : ℕ → Slot) → length (firstSlots n f) ≡ 12
 unfolding firstSlots
 first-length n f = length-map-counting (λ j. cond (ltb j n) (f j) Empty) 0 12
 
 -- slot j
-pub first-at : (n : ℕ) (f : ℕ → Slot) (j : ℕ) → n ≤ 12 → getD (firstSlots n f) j Empty ≡ cond (ltb j n) (f j) Empty
+first-at : (n : ℕ) (f : ℕ → Slot) (j : ℕ) → n ≤ 12 → getD (firstSlots n f) j Empty ≡ cond (ltb j n) (f j) Empty
 unfolding firstSlots
 first-at n f j h = ⊎-elim
     (λ (l : j < 12). getD-map-counting (λ j. cond (ltb j n) (f j) Empty) 0 12 j j Empty l (omega arith))
@@ -42,7 +39,7 @@ first-empty n f j h l = sym (cond-false (ltb j n) (f j) Empty (le-ltb j n l)) �
 -- what holds of the empty slot and of the first n holds of all
 pub first-all : (P : Slot → Type 0) (n : ℕ) (f : ℕ → Slot) → P Empty → ((j : ℕ) → j < n → P (f j)) → All P (firstSlots n f)
 unfolding firstSlots
-first-all P n f e h = all-counted P (λ j. cond (ltb j n) (f j) Empty) 0 12 (λ j p q. cond-both (ltb j n) (f j) Empty P (λ t. h j (ltb-true j n t)) (λ _. e))
+first-all P n f e h = all-counted P (λ j. cond (ltb j n) (f j) Empty) 0 12 (λ j p. cond-both (ltb j n) (f j) Empty P (λ t. h j (ltb-true j n t)) (λ _. e))
 
 -- what is joined from the slots is joined from the first n alone
 module _ {A : Type 0} (g : Slot → List A) (none : g Empty ≡ []) (f : ℕ → Slot) (m : ℕ) where
@@ -58,14 +55,7 @@ module _ {A : Type 0} (g : Slot → List A) (none : g Empty ≡ []) (f : ℕ →
   upto h e a zero (suc k) p q = absurd (omega arith)
   upto h e a (suc n) (suc k) p q = ap (λ s. g s ++ joined g (map slot (counting (a + 1) n))) (cond-true (ltb a m) (f a) Empty (lt-ltb a m (omega arith))) ∙ ap (λ l. l ++ joined g (map slot (counting (a + 1) n))) (e a) ∙ ap (λ l. h a ++ l) (upto h e (a + 1) n k (omega arith) (omega arith))
 
-joined-none : {A : Type 0} (a n : ℕ) → joined {A = A} (λ _. []) (counting a n) ≡ []
-joined-none a zero = refl
-joined-none a (suc n) = joined-none (a + 1) n
-
-joined-one : {A : Type 0} (h : ℕ → A) (a n : ℕ) → joined (λ j. h j ∷ []) (counting a n) ≡ map h (counting a n)
-joined-one h a zero = refl
-joined-one h a (suc n) = ap (λ l. h a ∷ l) (joined-one h (a + 1) n)
-
+-- so nothing is joined where none of them gives anything, and one each where each gives one
 pub first-none : {A : Type 0} (g : Slot → List A) (n : ℕ) (f : ℕ → Slot) → g Empty ≡ [] → ((j : ℕ) → g (f j) ≡ []) → n ≤ 12 → joined g (firstSlots n f) ≡ []
 unfolding firstSlots
 first-none {A} g n f e s h = upto g e f n (λ _. []) s 0 12 n (omega arith) h ∙ joined-none {A = A} 0 n

@@ -1,18 +1,20 @@
 -- A lattice by its numbers: labels where rows and columns cross, one leaf for each row.
+use mathlib.Core.Path.{_≡_}
 use mathlib.Core.Bool.{Bool, true, cond, _&&_}
 use mathlib.Core.List.{List, _∷_, map}
-use Prim.Native.Nat.{ℕ, _+_, _-_, _*_, _≤_}
+use Prim.Native.Nat.{ℕ, _+_, _-_, _*_, _≤_, _<_}
 use lib.IntN.{ℤ, pos, natAbs, _+ℤ_}
 use lib.Dec.{leb, ltb}
 use Rattle.std.specs.Iters.{counting}
 use Rattle.std.specs.declared.option.Option.{Option}
 use Rattle.std.specs.declared.option.Option.the-variants.{Some, None}
+use Rattle.std.specs.declared.result.Result.the-variants.{Ok}
 use Rattle.geometry.specs.declared.label.Label.{Label}
 use Rattle.geometry.specs.declared.rect.Rect.{Rect}
 use Rattle.geometry.specs.declared.refusal.Refusal.{Refusal}
 use Rattle.geometry.specs.declared.refusal.Reason.the-variants.{BadSize, BadNumber, BadPlace}
 use Rattle.geometry.specs.Refusals.{refusal}
-use Rattle.geometry.specs.Plane.{inRange, numbered, labelAt, rectAt}
+use Rattle.geometry.specs.Plane.{inRange, numbered, labelAt, rectAt, labelFrom, rectFrom}
 use Rattle.index.specs.declared.slot.Slot.{Slot}
 use Rattle.index.specs.declared.slot.Slot.the-variants.{Empty, Holds, Leads}
 use Rattle.index.specs.Table.{Table}
@@ -76,7 +78,7 @@ isNumbered rows columns first = numbered first && numbered (lastNumber rows colu
 abbrev pub refusedGrid : (rows columns step : ℕ) (x y : ℤ) (first : ℕ) → Option Refusal
 refusedGrid rows columns step x y first = cond (isSized rows columns step) (cond (isReach x step columns && isReach y step rows) (cond (isNumbered rows columns first) None (Some (refusal BadNumber 0))) (Some (refusal BadPlace 0))) (Some (refusal BadSize 0))
 
--- the same ranges as facts
+-- the ranges as facts: of rows and columns, of the step, of the places from z on, and of the numbers
 abbrev pub Lines : (rows columns : ℕ) → Type 0
 Lines rows columns = (1 ≤ rows) × (rows ≤ 12) × (1 ≤ columns) × (columns ≤ 12)
 
@@ -89,7 +91,13 @@ Reach z step n = (natAbs z ≤ 1000000) × (natAbs (along z step (n - 1)) ≤ 10
 abbrev pub Numbered : (rows columns first : ℕ) → Type 0
 Numbered rows columns first = (1 ≤ first) × (lastNumber rows columns first ≤ 999999999)
 
--- the open node is the root or the leaf of a row
+-- the open node, if there is one, is the root or the leaf of a row
 abbrev pub isNode : ℕ → Option ℕ → Bool
 isNode rows None = true
 isNode rows (Some i) = leb i rows
+
+-- every label and every box is in range, so that each has the numbers it is made from
+pub record Exact (rows columns step : ℕ) (x y : ℤ) (first : ℕ) : Type 0 where
+  pub labels : (i j : ℕ) → i < rows → j < columns → labelFrom (first + 12 * i + j) (along x step j) (along y step i) ≡ Ok (gridLabel step x y first i j)
+  pub boxes : (i : ℕ) → i < rows → rectFrom x (along y step i) (along x step (columns - 1)) (along y step i) ≡ Ok (gridRow columns step x y i)
+  pub whole : rectFrom x y (along x step (columns - 1)) (along y step (rows - 1)) ≡ Ok (gridTable rows columns step x y first .box)

@@ -4,7 +4,7 @@ ghost use Rattle.std.specs.Results.{Cases};
 ghost use Rattle.std.specs.Vec.{made};
 ghost use Rattle.std.specs.declared.option.Option.the-variants.{Some, None};
 ghost use Rattle.geometry.specs.Plane.{inRange};
-ghost use Rattle.lattice.specs.Grid.{isUpTo, isSized, isReach, isNumbered, refusedGrid, gridTable};
+ghost use Rattle.lattice.specs.Grid.{isUpTo, isSized, isReach, isNumbered, refusedGrid, gridTable, Exact};
 ghost use Rattle.lattice.specs.Shown.{Fresh};
 use super::Lattice;
 use super::crossings::advance;
@@ -93,6 +93,7 @@ impl Lattice {
     ) -> Result<Lattice, Refusal>
         ensures refusal { λ r. ⌜ Cases r (λ _. refusedGrid rows columns step x y first ≡ None) (λ e. refusedGrid rows columns step x y first ≡ Some e) ⌝ }
         ensures fresh { λ r. ⌜ made r (λ l. Fresh (gridTable rows columns step x y first) l) ⌝ }
+        ensures exact { λ r. ⌜ made r (λ _. Exact rows columns step x y first) ⌝ }
     {
         match refusal(rows, columns, step, x, y, first) {
             Some(e) => Err(e),

@@ -1,8 +1,8 @@
-use Rattle.lattice.proofs.Tree.{lawful, node-inside}
+use Rattle.lattice.proofs.Shows.{shows-lawful, shows-inside}
 use Rattle.lattice.proofs.lattice.store.LatticeStore.the-impl.Needs as need
 
 pub lawful-law : need.lawful-law
-lawful-law l = lawful (l .rows) (l .columns) (l .step) (l .x) (l .y) (l .first) (l .lined) (l .numbered)
+lawful-law l = shows-lawful l
 
 pub within-law : need.within-law
-within-law l = node-inside (l .rows) (l .columns) (l .step) (l .x) (l .y) (l .first) (l .lined) (l .opened) (l .within)
+within-law l = shows-inside l

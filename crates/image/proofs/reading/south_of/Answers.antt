@@ -1,0 +1,12 @@
+use mathlib.Core.Path.{_∙_}
+use mir.Syntax.{w32}
+use mir.Val.{SFits}
+use borrow.Author.Needs.{needs}
+use Rattle.std.proofs.shelf.Signed.{toZ-ofZ}
+use Rattle.image.proofs.Written.{south-is}
+use Rattle.image.proofs.reading.south_of.Needs as need
+
+pub returns : need.returns
+returns c =
+    let f : SFits w32 (c .signed-at .result) = search needs in
+    toZ-ofZ w32 (c .signed-at .result) f ∙ c .signed-at .ensures ∙ south-is (c .args .bytes .now) (c .args .n) (c .args .e) (c .pre .0 .nodes)
