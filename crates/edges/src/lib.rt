@@ -5,6 +5,11 @@ mod tests {
     use geometry::Place;
     use geometry::Rect;
     use geometry::Refusal;
+    use image::ImageNodes;
+    use image::ImageStore;
+    use index::NodeStore;
+    use lattice::Lattice;
+    use lattice::LatticeStore;
     use listing::Failure;
     use listing::LabelList;
     use measure::Measure;
@@ -91,6 +96,81 @@ mod tests {
     #[test]
     fn numbers_leave_the_queue_in_order() -> Result<(), Fail> {
         through(&mut [0; 4])
+    }
+
+    // How an image store answers: the number and place of a refusal, or two zeros.
+    fn answer(store: &mut ImageStore, bytes: &[u8]) -> (u32, usize) {
+        match store.open_image(bytes, &mut [0; 4]) {
+            Ok(()) => (0, 0),
+            Err(e) => (e.number(), e.place),
+        }
+    }
+
+    #[test]
+    fn sizes_of_images_have_ends(rt: LibcRuntime) -> Result<(), Fail> {
+        let mut store = ImageStore::new(rt.alloc())?;
+        for (n, m1, m0, number) in [
+            (128, 0, 1, 1),
+            (129, 0, 1, 2),
+            (0, 0, 1, 2),
+            (1, 6, 1, 1),
+            (1, 6, 2, 2),
+            (1, 0, 0, 2),
+        ] {
+            check_eq(answer(&mut store, &[0, n, m1, m0]).0, number)?;
+        }
+        for (level, count, number, place) in [
+            (7, 0, 0, 0),
+            (8, 0, 2, 0),
+            (0, 12, 2, 1),
+            (0, 13, 2, 0),
+        ] {
+            let bytes = [
+                0,
+                1,
+                0,
+                1,
+                level,
+                count,
+                0,
+                0,
+                0,
+                0,
+                0,
+                0,
+                0,
+                0,
+                0,
+                0,
+                0,
+                0,
+                0,
+                0,
+                0,
+                0,
+                0,
+                0,
+                0,
+                0,
+            ];
+            check_eq(answer(&mut store, &bytes), (number, place))?;
+        }
+        check_eq(store.node_count(), 1)
+    }
+
+    #[test]
+    fn the_meter_ends_at_two_million() -> Result<(), Fail> {
+        let Ok(mut store) = Lattice::new(1, 12, 100_000, -100_000, 0, 1) else {
+            return Err(Fail::new("refused"));
+        };
+        for _ in 0..2_000_000 {
+            check(store.open(1).is_ok())?;
+        }
+        check_eq(refused(store.open(2)), 15)?;
+        check_eq(refused(store.open(0)), 16)?;
+        check_eq(store.meter(), 2_000_000)?;
+        store.zero();
+        check_eq(refused(store.open(0)), 0)
     }
 
     // How many labels a listing has, or its refusal's number added to 1,000.

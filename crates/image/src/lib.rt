@@ -1,11 +1,11 @@
 // Images: tables of nodes written as bytes, and a store that holds one.
-pub mod boxes;
-pub mod checks;
-pub mod nodes;
-pub mod numbers;
-pub mod reading;
+mod boxes;
+mod checks;
+mod nodes;
+mod numbers;
+mod reading;
 pub mod store;
-pub mod targets;
+mod targets;
 
 pub use store::ImageStore;
 pub use store::nodes::ImageNodes;

@@ -38,16 +38,16 @@ pub(crate) fn check_nodes(bytes: &[u8], n: usize, m: usize) -> Result<(), Refusa
     Ok(())
 }
 
-// The entry after those of all nodes: the counts, with entry 0.
-fn last_start(bytes: &[u8], n: usize, m: usize) -> usize
-    requires { ⌜ Sized (now bytes) n m ⌝ }
-    ensures { λ r. ⌜ r ≡ start (imageOf (now (bytes .entry))) n ⌝ }
+// The entry in slot 0 of node `i`.
+pub(crate) fn start_of(bytes: &[u8], n: usize, m: usize, i: usize) -> usize
+    requires { ⌜ Sized (now bytes) n m ⌝ ∗ ⌜ i ≤ n ⌝ }
+    ensures { λ r. ⌜ r ≡ start (imageOf (now (bytes .entry))) i ⌝ }
 {
-    let mut sum = 1;
-    for i in 0..n {
-        sum += count_of(bytes, n, m, i) as usize;
+    let mut first = 1;
+    for k in 0..i {
+        first += count_of(bytes, n, m, k) as usize;
     }
-    sum
+    first
 }
 
 // The counts come to the number of entries.
@@ -55,7 +55,7 @@ pub(crate) fn check_sum(bytes: &[u8], n: usize, m: usize) -> Result<(), Refusal>
     requires { ⌜ Sized (now bytes) n m ⌝ }
     ensures { λ r. ⌜ r ≡ asResult (unless (eqb (start (imageOf (now (bytes .entry))) n) m) (refusal BadSize n)) ⌝ }
 {
-    if last_start(bytes, n, m) != m {
+    if start_of(bytes, n, m, n) != m {
         return Err(Refusal {
             reason: Reason::BadSize,
             place: n,

@@ -5,5 +5,4 @@ pub mod Refused
 pub mod Fitting
 pub mod Numbering
 pub mod Tree
-pub mod Opened
 pub mod Shows

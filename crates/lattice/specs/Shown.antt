@@ -1,6 +1,5 @@
 -- What a lattice shows as a store.
 use mathlib.Core.Path.{_≡_}
-use Prim.Native.Nat.{ℕ}
 use Rattle.std.specs.declared.option.Option.the-variants.{None}
 use Rattle.index.specs.Table.{Table}
 use Rattle.lattice.specs.declared.lattice.Lattice.{Lattice}

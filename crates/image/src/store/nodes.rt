@@ -1,6 +1,6 @@
 ghost use mathlib.Core.Path.{_≡_};
 ghost use mathlib.Core.Bool.{false};
-ghost use Prim.Native.Nat.{_<_, _≤_};
+ghost use Prim.Native.Nat.{_<_};
 ghost use lib.ListN.{getD};
 ghost use Rattle.std.specs.Of.Vec.{vec-items};
 ghost use Rattle.std.specs.Options.{isSome};
@@ -12,6 +12,7 @@ ghost use Rattle.image.specs.Checks.{verdict};
 ghost use Rattle.image.specs.Opened.{labelSlot, branchSlot};
 ghost use Rattle.image.specs.Results.{Sized};
 use super::ImageStore;
+use crate::nodes::start_of;
 use crate::reading::count_of;
 use crate::reading::east_of;
 use crate::reading::level_of;
@@ -25,18 +26,6 @@ use geometry::Rect;
 use geometry::Refusal;
 use index::NodeStore;
 use index::Slot;
-
-// The entry in slot 0 of node `i`.
-fn start_of(bytes: &[u8], n: usize, m: usize, i: usize) -> usize
-    requires { ⌜ Sized (now bytes) n m ⌝ ∗ ⌜ i ≤ n ⌝ }
-    ensures { λ r. ⌜ r ≡ start (imageOf (now (bytes .entry))) i ⌝ }
-{
-    let mut first = 1;
-    for k in 0..i {
-        first += count_of(bytes, n, m, k) as usize;
-    }
-    first
-}
 
 // The label that entry `e` writes.
 fn label_slot(bytes: &[u8], n: usize, m: usize, e: usize) -> Slot

@@ -14,6 +14,7 @@ ghost use Rattle.image.specs.Results.{asResult};
 ghost use Rattle.image.specs.Store.{heldTable, emptyTable, Fresh, HasEntries};
 use super::ImageStore;
 use crate::checks::check;
+use crate::checks::read_sizes;
 use geometry::Refusal;
 use std::alloc::AllocError;
 use std::alloc::Global;
@@ -61,19 +62,6 @@ fn refill(list: &mut Vec<u8>, bytes: &[u8])
     let _ = list.extend_from_slice(bytes);
 }
 
-// How many nodes and entries an image says that it has.
-fn sizes_of(bytes: &[u8]) -> (usize, usize)
-    ensures { λ r. ⌜ (4 ≤ length (now (bytes .entry)) → (r .0 ≡ imageOf (now (bytes .entry)) .nodes) × (r .1 ≡ imageOf (now (bytes .entry)) .entries)) ⌝ }
-{
-    match bytes {
-        [n1, n0, m1, m0, ..] => (
-            u16::from_be_bytes([*n1, *n0]) as usize,
-            u16::from_be_bytes([*m1, *m0]) as usize,
-        ),
-        _ => (0, 0),
-    }
-}
-
 impl ImageStore {
     // A store of one empty leaf, with memory for every image.
     pub fn new(heap: Global) -> Result<ImageStore, AllocError>
@@ -100,7 +88,7 @@ impl ImageStore {
         ensures lawful { λ r. ⌜ (isOk r ≡ true → Lawful (heldTable (now (self .exit))) × HasEntries (imageOf (now (bytes .entry))) (heldTable (now (self .exit)))) ⌝ }
     {
         check(bytes, numbers)?;
-        let (nodes, entries) = sizes_of(bytes);
+        let (nodes, entries) = read_sizes(bytes)?;
         refill(&mut self.bytes, bytes);
         self.nodes = nodes;
         self.entries = entries;

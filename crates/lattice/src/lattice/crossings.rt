@@ -11,6 +11,9 @@ use geometry::Label;
 use geometry::Rect;
 use index::Slot;
 
+// The slots of a node, and so the numbers from one row to the next.
+pub(crate) const SLOTS: u32 = 12;
+
 // The coordinate `k` steps on from `z`.
 pub(crate) fn advance(z: i32, step: u32, k: u32) -> i32
     requires { ⌜ natAbs z ≤ 1000000 ⌝ ∗ ⌜ step ≤ 100000 ⌝ ∗ ⌜ k ≤ 12 ⌝ }
@@ -39,7 +42,7 @@ impl Lattice {
     {
         let x = advance(self.x, self.step, j);
         let y = advance(self.y, self.step, i);
-        match Label::new(self.first + 12 * i + j, x, y) {
+        match Label::new(self.first + SLOTS * i + j, x, y) {
             Ok(l) => l,
             Err(_) => unreachable(),
         }

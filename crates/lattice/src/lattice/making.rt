@@ -7,11 +7,10 @@ ghost use Rattle.geometry.specs.Plane.{inRange};
 ghost use Rattle.lattice.specs.Grid.{isUpTo, isSized, isReach, isNumbered, refusedGrid, gridTable, Exact};
 ghost use Rattle.lattice.specs.Shown.{Fresh};
 use super::Lattice;
+use super::crossings::SLOTS;
 use super::crossings::advance;
 use geometry::Reason;
 use geometry::Refusal;
-
-const MOST_LINES: u32 = 12;
 
 const LONGEST_STEP: u32 = 100_000;
 
@@ -30,7 +29,7 @@ fn is_up_to(most: u32, n: u32) -> bool
 fn is_sized(rows: u32, columns: u32, step: u32) -> bool
     ensures { λ r. ⌜ r ≡ isSized rows columns step ⌝ }
 {
-    is_up_to(MOST_LINES, rows) && is_up_to(MOST_LINES, columns) && is_up_to(LONGEST_STEP, step)
+    is_up_to(SLOTS, rows) && is_up_to(SLOTS, columns) && is_up_to(LONGEST_STEP, step)
 }
 
 // Whether a coordinate lies on the map.
@@ -53,7 +52,7 @@ fn is_numbered(rows: u32, columns: u32, first: u32) -> bool
     requires { ⌜ 1 ≤ rows ⌝ ∗ ⌜ rows ≤ 12 ⌝ ∗ ⌜ 1 ≤ columns ⌝ ∗ ⌜ columns ≤ 12 ⌝ }
     ensures { λ r. ⌜ r ≡ isNumbered rows columns first ⌝ }
 {
-    is_up_to(LAST_LABEL, first) && is_up_to(LAST_LABEL, first + 12 * (rows - 1) + (columns - 1))
+    is_up_to(LAST_LABEL, first) && is_up_to(LAST_LABEL, first + SLOTS * (rows - 1) + (columns - 1))
 }
 
 // The refusal of the numbers of a lattice, if they are refused.

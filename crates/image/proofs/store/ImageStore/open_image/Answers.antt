@@ -1,5 +1,6 @@
 use mathlib.Core.Path.{_≡_, refl, sym, ap, subst, _∙_}
 use mathlib.Core.Bool.{true, false}
+use Prim.Native.Nat.{ℕ}
 use native.Mathlib.Omega.{arith}
 use lib.ListN.{length}
 use Rattle.std.specs.Options.{isSome}
@@ -14,6 +15,7 @@ use Rattle.image.specs.Nodes.{tableOf}
 use Rattle.image.specs.Checks.{verdict}
 use Rattle.image.specs.Results.{asResult}
 use Rattle.image.specs.Store.{HasEntries}
+use Rattle.image.proofs.Chaining.{verdict-header}
 use Rattle.image.proofs.Exactly.{accepted, accepted-obeys, obeys-accepted}
 use Rattle.image.proofs.Lawfulness.{lawful-table}
 use Rattle.image.proofs.Showing.{accepted-roomy, ok-none, has-entries}
@@ -45,13 +47,12 @@ ghost-self c =
     let bs = c .args .bytes .now in
     let room = length (c .args .numbers .now) in
     let none = ok-none (verdict bs room) (ap isOk (sym (c .in-Continue-check .ensures tt))) in
-    let a = accepted (imageOf bs) (length bs) room none in
-    let sizes = c .sizes-of-nodes .ensures (a .enough) in
+    let sizes = c .in-Continue-nodes .ensures tt .1 in
     let same = sym (c .refill .ensures .items) in (
       omega (arith, c .refill .ensures .room, c .args .self .now .roomy),
       (
         subst (λ l. isSome (verdict l 1537) ≡ false) same (ap isSome (accepted-roomy bs room none)),
-        ((sizes .0 ∙ ap (λ l. imageOf l .nodes) same, sizes .1 ∙ ap (λ l. imageOf l .entries) same), (refl, (omega arith, tt))),
+        ((sizes .nodes ∙ ap (λ l. imageOf l .nodes) same, sizes .entries ∙ ap (λ l. imageOf l .entries) same), (refl, (omega arith, tt))),
       ),
     )
 
@@ -71,3 +72,11 @@ returns c =
         subst (λ l. HasEntries (imageOf bs) (tableOf (imageOf l))) same (has-entries bs room none),
       );
     }
+
+pub returns-in-Break-nodes : need.returns-in-Break-nodes
+returns-in-Break-nodes c =
+    let bs = c .args .bytes .now in
+    let room = length (c .args .numbers .now) in
+    let none = ok-none (verdict bs room) (ap isOk (sym (c .in-Continue-check .ensures tt))) in
+    let header = sym none ∙ verdict-header bs room (c .in-Break-nodes .field-0 .0) (c .in-Break-nodes .ensures tt) in
+    let z : _≡_ {A = ℕ} 0 1 = cc in absurd (omega arith)

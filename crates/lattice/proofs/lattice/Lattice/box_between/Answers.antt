@@ -1,9 +1,9 @@
-use mathlib.Core.Path.{_≡_, _∙_}
+use mathlib.Core.Path.{_∙_}
 use Prim.Native.Nat.{_-_}
 use mir.Syntax.{w32}
 use Rattle.std.proofs.shelf.Signed.{toZ-ofZ}
 use Rattle.geometry.specs.Plane.{rectFrom}
-use Rattle.lattice.specs.Grid.{along, gridBox}
+use Rattle.lattice.specs.Grid.{along}
 use Rattle.lattice.proofs.Ranges.{passed, advanced}
 use Rattle.lattice.proofs.Fitting.{accepted-same, accepted-never, rect-fits, reach-spans}
 use Rattle.lattice.proofs.lattice.Lattice.box_between.Needs as need

@@ -1,7 +1,7 @@
 use mathlib.Core.Path.{refl}
 use native.Mathlib.Omega.{arith}
 use Rattle.lattice.specs.Shown.{tableOf}
-use Rattle.lattice.proofs.Opened.{no-node, at-end, opens-node}
+use Rattle.index.proofs.Opened.{no-node, at-end, opens-node}
 use Rattle.lattice.proofs.Shows.{shows-count}
 use Rattle.lattice.proofs.lattice.store.LatticeStore.open.Needs as need
 

@@ -4,7 +4,7 @@ use Rattle.image.specs.Layout.{imageOf}
 use Rattle.image.specs.Nodes.{start}
 use Rattle.image.proofs.Owners.{start-zero}
 use Rattle.image.proofs.Scanning.{start-next}
-use Rattle.image.proofs.store.nodes.start_of.Needs as need
+use Rattle.image.proofs.nodes.start_of.Needs as need
 
 pub loop-k-holds : need.loop-k-holds
 loop-k-holds c = (sym (start-zero (imageOf (c .args .bytes .now))), omega arith)
