@@ -8,8 +8,11 @@ ghost use Rattle.std.specs.Of.String.{string-bytes};
 ghost use Rattle.std.specs.Vec.{made};
 ghost use Rattle.std.specs.Written.{decimal};
 ghost use Rattle.labelplan.specs.Report.{entryOf, wordsOf, lineOf};
+use geometry::Label;
 use geometry::Reason;
+use geometry::Rect;
 use geometry::Refusal;
+use index::Slot;
 use listing::Found;
 use std::alloc::AllocError;
 use std::alloc::Global;
@@ -65,6 +68,91 @@ pub fn row<D: Shown>(heap: Global, name: &str, found: &[Found<D>]) -> Result<Str
         row.push_str(entry(heap, f)?.as_str())?;
     }
     Ok(row)
+}
+
+// A label, as a line of its own shows it.
+#[derive(Clone, Copy, PartialEq, Eq, PartialOrd, Ord)]
+struct Listed {
+    number: u32,
+    x: i32,
+    y: i32,
+}
+
+// The labels by number.
+fn by_number(heap: Global, labels: &[Label]) -> Result<Vec<Listed>, AllocError> {
+    let mut listed = Vec::new(heap);
+    for l in labels {
+        listed.push(Listed {
+            number: l.number(),
+            x: l.place().x(),
+            y: l.place().y(),
+        })?;
+    }
+    listed.sort();
+    Ok(listed)
+}
+
+// The line of a label.
+fn label_line(heap: Global, label: Listed) -> Result<String, AllocError> {
+    let number = label.number;
+    let x = label.x;
+    let y = label.y;
+    format!(heap, "label {number} {x} {y}")
+}
+
+// A line for each label, by number.
+pub fn label_lines(heap: Global, labels: &[Label]) -> Result<String, AllocError> {
+    let mut lines = String::new(heap);
+    for l in by_number(heap, labels)? {
+        push_line(&mut lines, label_line(heap, l)?.as_str())?;
+    }
+    if lines.is_empty() {
+        lines.push_str("none")?;
+    }
+    Ok(lines)
+}
+
+// One line more.
+pub fn push_line(lines: &mut String, line: &str) -> Result<(), AllocError> {
+    if !lines.is_empty() {
+        lines.push('\n')?;
+    }
+    lines.push_str(line)
+}
+
+// A node's number, its kind and its box.
+pub fn node_line(
+    heap: Global,
+    number: usize,
+    inner: bool,
+    around: Rect,
+) -> Result<String, AllocError> {
+    let kind = if inner { "inner" } else { "leaf" };
+    let west = around.west();
+    let south = around.south();
+    let east = around.east();
+    let north = around.north();
+    format!(heap, "node {number} {kind} {west} {south} {east} {north}")
+}
+
+// Slot `j` of a node behind a blank, or nothing where it is empty.
+pub fn slot_entry(heap: Global, j: usize, slot: Slot) -> Result<String, AllocError> {
+    match slot {
+        Slot::Empty => Ok(String::new(heap)),
+        Slot::Holds(label) => {
+            let number = label.number();
+            let x = label.place().x();
+            let y = label.place().y();
+            format!(heap, " {j}=label:{number}:{x}:{y}")
+        }
+        Slot::Leads(around, node) => {
+            let west = around.west();
+            let south = around.south();
+            let east = around.east();
+            let north = around.north();
+            format!(heap, " {j}=node:{node}:{west}:{south}:{east}:{north}")
+        }
+    }
 }
 
 // A reason in words.

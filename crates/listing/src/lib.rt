@@ -10,3 +10,4 @@ pub use failure::FailureFromRefusal;
 pub use found::Found;
 pub use found::FoundRanked;
 pub use list::LabelList;
+pub use list::nearest::nearest_of;

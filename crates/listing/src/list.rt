@@ -6,6 +6,7 @@ use geometry::Label;
 
 pub mod adding;
 pub mod nearest;
+pub mod reading;
 
 // Labels in the order of adding, no number twice.
 #[derive(Drop)]

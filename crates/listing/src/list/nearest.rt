@@ -79,8 +79,31 @@ fn take_nearest<D: Ranked>(
     Ok(nearest)
 }
 
+// The labels among the `k` nearest to a place, ties let in, by distance and then by number.
+pub fn nearest_of<M: Measure>(
+    heap: Global,
+    labels: &[Label],
+    measure: &M,
+    x: i32,
+    y: i32,
+    k: u32,
+) -> Result<Vec<Found<M::Distance>>, Failure>
+    ensures refusal { λ r. ⌜ Cases r (λ _. refusedListing x y k ≡ None) (λ f. elim f [ Refused e ↦ refusedListing x y k ≡ Some e | NoMemory ↦ refusedListing x y k ≡ None ]) ⌝ }
+    ensures listing { λ r. ⌜ made r (λ v. vec-items v ≡ listing (Distance·Ranked .precedes) (dist (now (measure .entry)) (placeAt x y)) k (now (labels .entry))) ⌝ }
+{
+    if k < 1 || k > 64 {
+        return Err(Failure::Refused(Refusal {
+            reason: Reason::BadCount,
+            place: 0,
+        }));
+    }
+    let from = Place::new(x, y)?;
+    let mut all = find_all(heap, measure, from, labels)?;
+    Ok(take_nearest(heap, all.as_mut_slice(), k as usize)?)
+}
+
 impl LabelList {
-    // The labels among the `k` nearest to a place, ties let in, by distance and then by number.
+    // The labels of the list among the `k` nearest to a place.
     pub fn nearest<M: Measure>(
         &self,
         heap: Global,
@@ -92,14 +115,6 @@ impl LabelList {
         ensures refusal { λ r. ⌜ Cases r (λ _. refusedListing x y k ≡ None) (λ f. elim f [ Refused e ↦ refusedListing x y k ≡ Some e | NoMemory ↦ refusedListing x y k ≡ None ]) ⌝ }
         ensures listing { λ r. ⌜ made r (λ v. vec-items v ≡ listing (Distance·Ranked .precedes) (dist (now (measure .entry)) (placeAt x y)) k (labelsOf (now (self .entry)))) ⌝ }
     {
-        if k < 1 || k > 64 {
-            return Err(Failure::Refused(Refusal {
-                reason: Reason::BadCount,
-                place: 0,
-            }));
-        }
-        let from = Place::new(x, y)?;
-        let mut all = find_all(heap, measure, from, self.labels.as_slice())?;
-        Ok(take_nearest(heap, all.as_mut_slice(), k as usize)?)
+        nearest_of(heap, self.labels.as_slice(), measure, x, y, k)
     }
 }

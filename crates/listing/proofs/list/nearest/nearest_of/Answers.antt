@@ -1,15 +1,13 @@
 use mathlib.Core.Path.{_≡_, ap, _∙_}
-use mathlib.Core.List.{map}
 use native.Mathlib.Omega.{arith}
 use mir.Syntax.{w32}
 use mir.Val.{SFits}
-use Rattle.std.specs.Of.Vec.{vec-items}
 use Rattle.std.proofs.shelf.Signed.{toZ-ofZ}
 use Rattle.std.proofs.shelf.Results.{err-from-errBy}
 use Rattle.geometry.proofs.Boxes.{place-told}
-use Rattle.listing.specs.Neighbours.{found, nearest, listing}
+use Rattle.listing.specs.Neighbours.{nearest, listing}
 use Rattle.listing.proofs.Accepting.{accepted}
-use Rattle.listing.proofs.list.LabelList.nearest.Needs as need
+use Rattle.listing.proofs.list.nearest.nearest_of.Needs as need
 
 pub returns-in-Break-take-nearest : need.returns-in-Break-take-nearest
 returns-in-Break-take-nearest g c =
@@ -29,11 +27,10 @@ returns g c =
     let lt = g .Distance·Ranked .precedes in
     let k = c .args .k in
     let to = g .M·Measure .dist (c .args .measure .now) in
-    let labels = vec-items (c .args .self .now .labels) in
     record {
       refusal = fine;
       listing =
           c .in-Continue-take-nearest .ensures tt
-          ∙ ap (nearest lt k) (c .as-mut-slice .ensures .value ∙ c .in-Continue-all .ensures tt ∙ ap (map (found (to (c .in-Continue-from .from)))) (c .as-slice .ensures .value))
-          ∙ ap (λ p. listing lt (to p) k labels) (told .1);
+          ∙ ap (nearest lt k) (c .as-mut-slice .ensures .value ∙ c .in-Continue-all .ensures tt)
+          ∙ ap (λ p. listing lt (to p) k (c .args .labels .now)) (told .1);
     }
