@@ -7,7 +7,7 @@ ghost use Rattle.std.specs.Joined.{joined};
 ghost use Rattle.std.specs.Of.String.{string-bytes};
 ghost use Rattle.std.specs.Vec.{made};
 ghost use Rattle.std.specs.Written.{decimal};
-ghost use Rattle.labelplan.specs.Report.{entryOf, wordsOf, lineOf};
+ghost use Rattle.labelplan.specs.Report.{entryOf, labelLine, nodeLine, slotEntry, wordsOf, lineOf};
 use geometry::Label;
 use geometry::Reason;
 use geometry::Rect;
@@ -93,10 +93,9 @@ fn by_number(heap: Global, labels: &[Label]) -> Result<Vec<Listed>, AllocError> 
 }
 
 // The line of a label.
-fn label_line(heap: Global, label: Listed) -> Result<String, AllocError> {
-    let number = label.number;
-    let x = label.x;
-    let y = label.y;
+fn label_line(heap: Global, number: u32, x: i32, y: i32) -> Result<String, AllocError>
+    ensures { λ r. ⌜ made r (λ s. string-bytes s ≡ labelLine number x y) ⌝ }
+{
     format!(heap, "label {number} {x} {y}")
 }
 
@@ -104,7 +103,7 @@ fn label_line(heap: Global, label: Listed) -> Result<String, AllocError> {
 pub fn label_lines(heap: Global, labels: &[Label]) -> Result<String, AllocError> {
     let mut lines = String::new(heap);
     for l in by_number(heap, labels)? {
-        push_line(&mut lines, label_line(heap, l)?.as_str())?;
+        push_line(&mut lines, label_line(heap, l.number, l.x, l.y)?.as_str())?;
     }
     if lines.is_empty() {
         lines.push_str("none")?;
@@ -126,7 +125,9 @@ pub fn node_line(
     number: usize,
     inner: bool,
     around: Rect,
-) -> Result<String, AllocError> {
+) -> Result<String, AllocError>
+    ensures { λ r. ⌜ made r (λ s. string-bytes s ≡ nodeLine number inner around) ⌝ }
+{
     let kind = if inner { "inner" } else { "leaf" };
     let west = around.west();
     let south = around.south();
@@ -136,7 +137,9 @@ pub fn node_line(
 }
 
 // Slot `j` of a node behind a blank, or nothing where it is empty.
-pub fn slot_entry(heap: Global, j: usize, slot: Slot) -> Result<String, AllocError> {
+pub fn slot_entry(heap: Global, j: usize, slot: Slot) -> Result<String, AllocError>
+    ensures { λ r. ⌜ made r (λ s. string-bytes s ≡ slotEntry j slot) ⌝ }
+{
     match slot {
         Slot::Empty => Ok(String::new(heap)),
         Slot::Holds(label) => {
