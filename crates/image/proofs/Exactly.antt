@@ -131,9 +131,6 @@ obeying d size room a =
 
 -- and what obeys them passes
 module _ (d : Image) (size : ℕ) (l : Layout d size) (t : Tree d) where
-  m : ℕ
-  m = d .entries - 1
-
   last : suc (d .entries - 1) ≡ d .entries
   last = omega (arith, l .entries .0)
 

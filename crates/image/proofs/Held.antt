@@ -61,9 +61,6 @@ opens-inside d (Some i) e h = let both = and-both (ltb i (d .nodes)) (eqb e (sta
 
 -- the slots of a node, and past them
 module _ (d : Image) (i j : ℕ) where
-  f : ℕ → Slot
-  f j = cond (ltb j (d .count i)) (slotOf d i (start d i + j)) Empty
-
   pub slot-past : d .count i ≤ j → getD (nodeOf d i) j Empty ≡ Empty
   unfolding nodeOf
   slot-past h = ⊎-elim
