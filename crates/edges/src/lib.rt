@@ -1,4 +1,6 @@
 // The edges of the rules, run.
+#![tactic(auto)]
+
 #[cfg(test)]
 mod tests {
     use geometry::{Label, Place, Rect, Refusal};

@@ -1,4 +1,6 @@
 // Places, boxes and labels of a map, and the refusals of every call.
+#![tactic(auto)]
+
 pub mod label;
 pub mod place;
 pub mod rect;

@@ -1,4 +1,6 @@
 // Images: tables of nodes written as bytes, and a store that holds one.
+#![tactic(auto)]
+
 mod boxes;
 mod checks;
 mod nodes;

@@ -1,4 +1,6 @@
 // The tree of nodes that queries read: what a node store is, and makers of one.
+#![tactic(auto)]
+
 pub mod slot;
 pub mod store;
 

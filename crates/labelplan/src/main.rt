@@ -1,4 +1,6 @@
 // Runs a script of commands on a map's labels, one command to a line: `labelplan [FILE]`.
+#![tactic(auto)]
+
 use session::Session;
 use std::env;
 use std::fs::File;

@@ -1,4 +1,6 @@
 // The labels nearest to a place, listed from a plain list of labels: the reference for indexed answers.
+#![tactic(auto)]
+
 pub mod failure;
 pub mod found;
 pub mod list;

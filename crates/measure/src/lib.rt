@@ -1,4 +1,6 @@
 // Measures: the distance of two places, and the near bound from a place to a box.
+#![tactic(auto)]
+
 ghost use Rattle.std.specs.Prelude.{◌≡◌, ◌≤◌, true, false};
 ghost use Rattle.std.proofs.Common.{ap};
 ghost use Rattle.geometry.specs.declared.place.Place.{Place};

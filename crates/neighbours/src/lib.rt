@@ -1,4 +1,6 @@
 // Who is near to whom, and which nodes a search has to look into: the definitions, and the items of a search.
+#![tactic(auto)]
+
 pub mod arrival;
 pub mod item;
 pub mod limit;

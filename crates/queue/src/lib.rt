@@ -1,4 +1,6 @@
 // A priority queue: a binary heap in the front of a slice that is lent.
+#![tactic(auto)]
+
 ghost use Rattle.std.specs.Prelude.{◌≡◌, ℕ, ◌+◌, ◌-◌, ◌*◌, ◌/◌, ◌<◌, ◌≤◌, Bool, true, false, length, take, drop, nat_lt, slice_index_or};
 ghost use Rattle.queue.specs.Order.{Order, insert, sorted, smaller};
 ghost use Rattle.queue.specs.Shape.{up, Heap, Loose, Least};

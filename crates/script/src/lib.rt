@@ -1,4 +1,6 @@
 // The lines of a script: the commands that they give, and the lines that answer them.
+#![tactic(auto)]
+
 pub mod command;
 mod number;
 pub mod report;

@@ -1,4 +1,6 @@
 // Queries over any node store and any measure: the nearest labels, and the mutual ones.
+#![tactic(auto)]
+
 mod checking;
 mod entering;
 mod gathering;
