@@ -49,7 +49,7 @@ impl Ranked for (u32, u32) {
 
 fn is_before<T: Ranked>(items: &[T], a: usize, b: usize) -> bool
     requires { (a < length items.now) × (b < length items.now) }
-    ensures { (d : T) → precedes (slice_index_or items.now a d) (slice_index_or items.now b d) ≡ result }
+    ensures { (d : T) → T.precedes (slice_index_or items.now a d) (slice_index_or items.now b d) ≡ result }
 {
     items[a].before(&items[b])
 }
@@ -57,8 +57,8 @@ fn is_before<T: Ranked>(items: &[T], a: usize, b: usize) -> bool
 // Moves the item at `len` up to its place; the items before it are a heap.
 fn sift_up<T: Ranked>(items: &mut [T], len: usize)
     requires { len < length items.old }
-    ensures shape { Heap precedes items.old len → Heap precedes items.new (len + 1) }
-    ensures contents { sorted precedes (take (len + 1) items.new) ≡ sorted precedes (take (len + 1) items.old) }
+    ensures shape { Heap T.precedes items.old len → Heap T.precedes items.new (len + 1) }
+    ensures contents { sorted T.precedes (take (len + 1) items.new) ≡ sorted T.precedes (take (len + 1) items.old) }
     ensures rest { drop (len + 1) items.new ≡ drop (len + 1) items.old }
 {
     let mut at = len;
@@ -76,7 +76,7 @@ fn sift_up<T: Ranked>(items: &mut [T], len: usize)
 fn least_child<T: Ranked>(items: &[T], at: usize, len: usize) -> usize
     requires { (2 * at + 1 < len) × (len ≤ length items.now) }
     ensures bound { (result < len) × (2 * at + 1 ≤ result) × (result ≤ 2 * at + 2) }
-    ensures least { Least precedes items.now len at result }
+    ensures least { Least T.precedes items.now len at result }
 {
     let left = 2 * at + 1;
     if left + 1 == len {
@@ -91,8 +91,8 @@ fn least_child<T: Ranked>(items: &[T], at: usize, len: usize) -> usize
 // Moves the item at the root down to its place; the first `len` items are a heap but for it.
 fn sift_down<T: Ranked>(items: &mut [T], len: usize)
     requires { len ≤ length items.old }
-    ensures shape { Loose precedes items.old len → Heap precedes items.new len }
-    ensures contents { sorted precedes (take len items.new) ≡ sorted precedes (take len items.old) }
+    ensures shape { Loose T.precedes items.old len → Heap T.precedes items.new len }
+    ensures contents { sorted T.precedes (take len items.new) ≡ sorted T.precedes (take len items.old) }
     ensures rest { drop len items.new ≡ drop len items.old }
 {
     let mut at = 0;
@@ -109,7 +109,7 @@ fn sift_down<T: Ranked>(items: &mut [T], len: usize)
 // Puts `x` into the queue in the first `len` of `items`, and gives the new length; `None` where the list is full.
 pub fn push<T: Ranked>(items: &mut [T], len: usize, x: T) -> Option<usize>
     ensures told { result ≡ pushed items.old len }
-    ensures queue { Pushed precedes items.old items.new len x }
+    ensures queue { Pushed T.precedes items.old items.new len x }
 {
     if len >= items.len() {
         return None;
@@ -123,7 +123,7 @@ pub fn push<T: Ranked>(items: &mut [T], len: usize, x: T) -> Option<usize>
 // the queue is empty, or longer than the list.
 pub fn pop<T: Ranked>(items: &mut [T], len: usize) -> Option<(T, usize)>
     ensures told { result ≡ popped items.old len }
-    ensures queue { Popped precedes items.old items.new len result }
+    ensures queue { Popped T.precedes items.old items.new len result }
 {
     if len == 0 || len > items.len() {
         return None;
@@ -137,8 +137,8 @@ pub fn pop<T: Ranked>(items: &mut [T], len: usize) -> Option<(T, usize)>
 
 // Makes a queue of the whole list, in place.
 pub fn heapify<T: Ranked>(items: &mut [T])
-    ensures shape { Heap precedes items.new (length items.new) }
-    ensures contents { sorted precedes items.new ≡ sorted precedes items.old }
+    ensures shape { Heap T.precedes items.new (length items.new) }
+    ensures contents { sorted T.precedes items.new ≡ sorted T.precedes items.old }
 {
     for len in 0..items.len() {
         let x = items[len];

@@ -43,7 +43,7 @@ impl Shown for (u32, u32) {
 
 // A label found, by its number and its distance.
 fn entry<D: Shown>(heap: Global, found: &Found<D>) -> Result<String, AllocError>
-    ensures { IfOk result (λ s. string_bytes s ≡ entry_of shown found.now) }
+    ensures { IfOk result (λ s. string_bytes s ≡ entry_of D.shown found.now) }
 {
     let number = found.number;
     let distance = found.distance.text(heap)?;
@@ -52,7 +52,7 @@ fn entry<D: Shown>(heap: Global, found: &Found<D>) -> Result<String, AllocError>
 
 // A measure's name, and then the labels found.
 pub fn row<D: Shown>(heap: Global, name: &str, found: &[Found<D>]) -> Result<String, AllocError>
-    ensures { IfOk result (λ s. string_bytes s ≡ name.now ++ flat_map (entry_of shown) found.now) }
+    ensures { IfOk result (λ s. string_bytes s ≡ name.now ++ flat_map (entry_of D.shown) found.now) }
 {
     let mut row = String::from_str(heap, name)?;
     for f in found {

@@ -25,12 +25,12 @@ fn few_nearer<S: NodeStore, M: Measure>(
     k: u32,
     items: &mut [Item<M::Distance>],
 ) -> bool
-    requires room { work_places (table store.old) ≤ length items.old }
-    requires meter { metered store.old + work_places (table store.old) ≤ 2000000 }
-    ensures table { table store.new ≡ table store.old }
-    ensures frames { frames store.new ≡ frames store.old }
-    ensures value { result ≡ nat_lt (nearer_in (scene M.Distance.Ranked.precedes (table store.old) (dist measure.now) (bound measure.now) view) end) k }
-    ensures metered { metered store.new ≡ metered store.old + nodes_before (scene M.Distance.Ranked.precedes (table store.old) (dist measure.now) (bound measure.now) view) end k }
+    requires room { work_places (S.table store.old) ≤ length items.old }
+    requires meter { S.metered store.old + work_places (S.table store.old) ≤ 2000000 }
+    ensures table { S.table store.new ≡ S.table store.old }
+    ensures frames { S.frames store.new ≡ S.frames store.old }
+    ensures value { result ≡ nat_lt (nearer_in (scene M.Distance.Ranked.precedes (S.table store.old) (M.dist measure.now) (M.bound measure.now) view) end) k }
+    ensures metered { S.metered store.new ≡ S.metered store.old + nodes_before (scene M.Distance.Ranked.precedes (S.table store.old) (M.dist measure.now) (M.bound measure.now) view) end k }
 {
     let mut len = start(store, measure, view, items);
     for _ in 0..k {
@@ -54,13 +54,13 @@ fn is_confirmed<S: NodeStore, M: Measure>(
     items: &mut [Item<M::Distance>],
 ) -> bool
     requires count { 1 ≤ k }
-    requires distance { distance ≡ dist measure.now from candidate.place }
-    requires room { work_places (table store.old) ≤ length items.old }
-    requires meter { metered store.old + work_places (table store.old) ≤ 2000000 }
-    ensures table { table store.new ≡ table store.old }
-    ensures frames { frames store.new ≡ frames store.old }
-    ensures value { result ≡ confirmed (ranking M.Distance.Ranked.precedes (dist measure.now) (bound measure.now)) from k (others own (plan (table store.old))) candidate }
-    ensures metered { metered store.new ≡ metered store.old + reach_of (ranking M.Distance.Ranked.precedes (dist measure.now) (bound measure.now)) (table store.old) from k (others own (plan (table store.old))) candidate }
+    requires distance { distance ≡ M.dist measure.now from candidate.place }
+    requires room { work_places (S.table store.old) ≤ length items.old }
+    requires meter { S.metered store.old + work_places (S.table store.old) ≤ 2000000 }
+    ensures table { S.table store.new ≡ S.table store.old }
+    ensures frames { S.frames store.new ≡ S.frames store.old }
+    ensures value { result ≡ confirmed (ranking M.Distance.Ranked.precedes (M.dist measure.now) (M.bound measure.now)) from k (others own (plan (S.table store.old))) candidate }
+    ensures metered { S.metered store.new ≡ S.metered store.old + reach_of (ranking M.Distance.Ranked.precedes (M.dist measure.now) (M.bound measure.now)) (S.table store.old) from k (others own (plan (S.table store.old))) candidate }
 {
     let view = View {
         from: candidate.place(),
@@ -81,13 +81,13 @@ pub(crate) fn is_answer<S: NodeStore, M: Measure>(
     distance: M::Distance,
     items: &mut [Item<M::Distance>],
 ) -> bool
-    requires distance { distance ≡ dist measure.now from candidate.place }
-    requires room { Roomy (table store.old) confirming (length items.old) }
-    requires meter { metered store.old + work_places (table store.old) ≤ 2000000 }
-    ensures table { table store.new ≡ table store.old }
-    ensures frames { frames store.new ≡ frames store.old }
-    ensures value { result ≡ accepts (ranking M.Distance.Ranked.precedes (dist measure.now) (bound measure.now)) (table store.old) from own confirming candidate }
-    ensures metered { metered store.new ≡ metered store.old + costs (ranking M.Distance.Ranked.precedes (dist measure.now) (bound measure.now)) (table store.old) from own confirming candidate }
+    requires distance { distance ≡ M.dist measure.now from candidate.place }
+    requires room { Roomy (S.table store.old) confirming (length items.old) }
+    requires meter { S.metered store.old + work_places (S.table store.old) ≤ 2000000 }
+    ensures table { S.table store.new ≡ S.table store.old }
+    ensures frames { S.frames store.new ≡ S.frames store.old }
+    ensures value { result ≡ accepts (ranking M.Distance.Ranked.precedes (M.dist measure.now) (M.bound measure.now)) (S.table store.old) from own confirming candidate }
+    ensures metered { S.metered store.new ≡ S.metered store.old + costs (ranking M.Distance.Ranked.precedes (M.dist measure.now) (M.bound measure.now)) (S.table store.old) from own confirming candidate }
 {
     match confirming {
         Some(k) => is_confirmed(store, measure, from, own, k, candidate, distance, items),

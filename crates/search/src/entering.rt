@@ -16,7 +16,7 @@ const SLOTS: usize = 12;
 
 // The item of a slot, if it has one that the view shows.
 fn item_of<M: Measure>(measure: &M, view: View, slot: Slot) -> Option<Item<M::Distance>>
-    ensures { result ≡ item_of (dist measure.now view.from) (bound measure.now view.from) view slot }
+    ensures { result ≡ item_of (M.dist measure.now view.from) (M.bound measure.now view.from) view slot }
 {
     match slot {
         Slot::Empty => None,
@@ -44,9 +44,9 @@ fn push_slot<M: Measure>(
     items: &mut [Item<M::Distance>],
     len: usize,
 ) -> usize
-    requires room { len + length (listed (item_of (dist measure.now view.from) (bound measure.now view.from) view slot)) ≤ length items.old }
+    requires room { len + length (listed (item_of (M.dist measure.now view.from) (M.bound measure.now view.from) view slot)) ≤ length items.old }
     requires shape { Heap (ahead M.Distance.Ranked.precedes) items.old len }
-    ensures { Entered (ahead M.Distance.Ranked.precedes) items.old items.new len result (listed (item_of (dist measure.now view.from) (bound measure.now view.from) view slot)) }
+    ensures { Entered (ahead M.Distance.Ranked.precedes) items.old items.new len result (listed (item_of (M.dist measure.now view.from) (M.bound measure.now view.from) view slot)) }
 {
     match item_of(measure, view, slot) {
         Some(item) => push(items, len, item).unwrap_or(len),
@@ -62,9 +62,9 @@ fn push_items<S: NodeStore, M: Measure>(
     items: &mut [Item<M::Distance>],
     len: usize,
 ) -> usize
-    requires room { len + length (items_in (dist measure.now view.from) (bound measure.now view.from) view (open_slots (table store.now) (opened store.now))) ≤ length items.old }
+    requires room { len + length (items_in (M.dist measure.now view.from) (M.bound measure.now view.from) view (open_slots (S.table store.now) (S.opened store.now))) ≤ length items.old }
     requires shape { Heap (ahead M.Distance.Ranked.precedes) items.old len }
-    ensures { Entered (ahead M.Distance.Ranked.precedes) items.old items.new len result (items_in (dist measure.now view.from) (bound measure.now view.from) view (open_slots (table store.now) (opened store.now))) }
+    ensures { Entered (ahead M.Distance.Ranked.precedes) items.old items.new len result (items_in (M.dist measure.now view.from) (M.bound measure.now view.from) view (open_slots (S.table store.now) (S.opened store.now))) }
 {
     let mut count = len;
     for j in 0..SLOTS {
@@ -82,14 +82,14 @@ pub(crate) fn open_node<S: NodeStore, M: Measure>(
     items: &mut [Item<M::Distance>],
     len: usize,
 ) -> usize
-    requires node { node < node_count (table store.old) }
-    requires meter { metered store.old < 2000000 }
-    requires room { len + length (items_in (dist measure.now view.from) (bound measure.now view.from) view (node_at (table store.old) node)) ≤ length items.old }
+    requires node { node < node_count (S.table store.old) }
+    requires meter { S.metered store.old < 2000000 }
+    requires room { len + length (items_in (M.dist measure.now view.from) (M.bound measure.now view.from) view (node_at (S.table store.old) node)) ≤ length items.old }
     requires shape { Heap (ahead M.Distance.Ranked.precedes) items.old len }
-    ensures table { table store.new ≡ table store.old }
-    ensures frames { frames store.new ≡ frames store.old }
-    ensures metered { metered store.new ≡ metered store.old + 1 }
-    ensures entered { Entered (ahead M.Distance.Ranked.precedes) items.old items.new len result (items_in (dist measure.now view.from) (bound measure.now view.from) view (node_at (table store.old) node)) }
+    ensures table { S.table store.new ≡ S.table store.old }
+    ensures frames { S.frames store.new ≡ S.frames store.old }
+    ensures metered { S.metered store.new ≡ S.metered store.old + 1 }
+    ensures entered { Entered (ahead M.Distance.Ranked.precedes) items.old items.new len result (items_in (M.dist measure.now view.from) (M.bound measure.now view.from) view (node_at (S.table store.old) node)) }
 {
     if store.open(node).is_err() {
         unreachable();

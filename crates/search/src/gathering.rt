@@ -49,14 +49,14 @@ pub(crate) fn gather<S: NodeStore, M: Measure>(
     answers: &mut [u32],
 ) -> Option<usize>
     requires count { 1 ≤ k }
-    requires room { work_places (table store.old) ≤ length work.old }
-    requires second { Roomy (table store.old) confirming (length second.old) }
-    requires meter { metered store.old ≤ 900000 }
-    ensures table { table store.new ≡ table store.old }
-    ensures frames { frames store.new ≡ frames store.old }
-    ensures told { result ≡ fitting (answers_of (ranking M.Distance.Ranked.precedes (dist measure.now) (bound measure.now)) (table store.old) from own k confirming) (length answers.old) }
-    ensures answers { answers.new ≡ take (length answers.old) (answers_of (ranking M.Distance.Ranked.precedes (dist measure.now) (bound measure.now)) (table store.old) from own k confirming) ++ drop (length (answers_of (ranking M.Distance.Ranked.precedes (dist measure.now) (bound measure.now)) (table store.old) from own k confirming)) answers.old }
-    ensures metered { elim result [ Some n ↦ metered store.new ≡ metered store.old + openings_of (ranking M.Distance.Ranked.precedes (dist measure.now) (bound measure.now)) (table store.old) from own k confirming | None ↦ Unit {0} ] }
+    requires room { work_places (S.table store.old) ≤ length work.old }
+    requires second { Roomy (S.table store.old) confirming (length second.old) }
+    requires meter { S.metered store.old ≤ 900000 }
+    ensures table { S.table store.new ≡ S.table store.old }
+    ensures frames { S.frames store.new ≡ S.frames store.old }
+    ensures told { result ≡ fitting (answers_of (ranking M.Distance.Ranked.precedes (M.dist measure.now) (M.bound measure.now)) (S.table store.old) from own k confirming) (length answers.old) }
+    ensures answers { answers.new ≡ take (length answers.old) (answers_of (ranking M.Distance.Ranked.precedes (M.dist measure.now) (M.bound measure.now)) (S.table store.old) from own k confirming) ++ drop (length (answers_of (ranking M.Distance.Ranked.precedes (M.dist measure.now) (M.bound measure.now)) (S.table store.old) from own k confirming)) answers.old }
+    ensures metered { elim result [ Some n ↦ S.metered store.new ≡ S.metered store.old + openings_of (ranking M.Distance.Ranked.precedes (M.dist measure.now) (M.bound measure.now)) (S.table store.old) from own k confirming | None ↦ Unit {0} ] }
 {
     let view = View {
         from,

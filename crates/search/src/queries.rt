@@ -20,14 +20,14 @@ use queue::Ranked;
 
 // How many places a query's work list must have.
 pub fn work_places<S: NodeStore>(store: &S) -> usize
-    ensures { result ≡ work_places (table store.now) }
+    ensures { result ≡ work_places (S.table store.now) }
 {
     1 + 12 * store.node_count()
 }
 
 // An item to fill a work list with.
 pub fn spare_item<M: Measure>(measure: &M) -> Item<M::Distance>
-    ensures { result ≡ spare_item (dist measure.now) }
+    ensures { result ≡ spare_item (M.dist measure.now) }
 {
     Item {
         distance: measure.distance(Place::middle(), Place::middle()),
@@ -57,7 +57,7 @@ fn admit<S: NodeStore>(
     y: i32,
     shortest: usize,
 ) -> Result<Place, Refusal>
-    ensures { result ≡ admitted (refused counts x y (work_places (table store.now)) shortest) x y }
+    ensures { result ≡ admitted (refused counts x y (work_places (S.table store.now)) shortest) x y }
 {
     if !counts {
         return Err(Refusal {
@@ -78,7 +78,7 @@ fn admit<S: NodeStore>(
 
 // What a query tells that put so many answers, or had no place for one.
 fn conclude<S: NodeStore>(store: &S, count: Option<usize>) -> Result<Told, Refusal>
-    ensures { result ≡ concluded count (metered store.now) }
+    ensures { result ≡ concluded count (S.metered store.now) }
 {
     match count {
         Some(count) => Ok(Told {
@@ -104,13 +104,13 @@ pub fn nearest<S: NodeStore, M: Measure>(
     work: &mut [Item<M::Distance>],
     answers: &mut [u32],
 ) -> Result<Told, Refusal>
-    ensures told { result ≡ outcome (refused_nearest (table store.old) x y k (length work.old)) (nearest_answers (ranking M.Distance.Ranked.precedes (dist measure.now) (bound measure.now)) (table store.old) (place_at x y) own k) (nearest_openings (ranking M.Distance.Ranked.precedes (dist measure.now) (bound measure.now)) (table store.old) (place_at x y) own k) (length answers.old) }
-    ensures answers { answers.new ≡ filled (refused_nearest (table store.old) x y k (length work.old)) (nearest_answers (ranking M.Distance.Ranked.precedes (dist measure.now) (bound measure.now)) (table store.old) (place_at x y) own k) answers.old }
-    ensures metered { IfOk result (λ t. metered store.new ≡ nearest_openings (ranking M.Distance.Ranked.precedes (dist measure.now) (bound measure.now)) (table store.old) (place_at x y) own k) }
-    ensures table { table store.new ≡ table store.old }
-    ensures frames { frames store.new ≡ frames store.old }
-    ensures opened { Inside (table store.new) (opened store.new) }
-    ensures bounded { metered store.new ≤ 2000000 }
+    ensures told { result ≡ outcome (refused_nearest (S.table store.old) x y k (length work.old)) (nearest_answers (ranking M.Distance.Ranked.precedes (M.dist measure.now) (M.bound measure.now)) (S.table store.old) (place_at x y) own k) (nearest_openings (ranking M.Distance.Ranked.precedes (M.dist measure.now) (M.bound measure.now)) (S.table store.old) (place_at x y) own k) (length answers.old) }
+    ensures answers { answers.new ≡ filled (refused_nearest (S.table store.old) x y k (length work.old)) (nearest_answers (ranking M.Distance.Ranked.precedes (M.dist measure.now) (M.bound measure.now)) (S.table store.old) (place_at x y) own k) answers.old }
+    ensures metered { IfOk result (λ t. S.metered store.new ≡ nearest_openings (ranking M.Distance.Ranked.precedes (M.dist measure.now) (M.bound measure.now)) (S.table store.old) (place_at x y) own k) }
+    ensures table { S.table store.new ≡ S.table store.old }
+    ensures frames { S.frames store.new ≡ S.frames store.old }
+    ensures opened { Inside (S.table store.new) (S.opened store.new) }
+    ensures bounded { S.metered store.new ≤ 2000000 }
     ensures work { length work.new ≡ length work.old }
 {
     let from = admit(store, is_count(k), x, y, work.len())?;
@@ -134,14 +134,14 @@ pub fn mutual<S: NodeStore, M: Measure>(
     second: &mut [Item<M::Distance>],
     answers: &mut [u32],
 ) -> Result<Told, Refusal>
-    ensures told { result ≡ outcome (refused_mutual (table store.old) x y k1 k2 (length work.old) (length second.old)) (mutual_answers (ranking M.Distance.Ranked.precedes (dist measure.now) (bound measure.now)) (table store.old) (place_at x y) own k1 k2) (mutual_openings (ranking M.Distance.Ranked.precedes (dist measure.now) (bound measure.now)) (table store.old) (place_at x y) own k1 k2) (length answers.old) }
-    ensures answers { answers.new ≡ filled (refused_mutual (table store.old) x y k1 k2 (length work.old) (length second.old)) (mutual_answers (ranking M.Distance.Ranked.precedes (dist measure.now) (bound measure.now)) (table store.old) (place_at x y) own k1 k2) answers.old }
-    ensures metered { IfOk result (λ t. metered store.new ≡ mutual_openings (ranking M.Distance.Ranked.precedes (dist measure.now) (bound measure.now)) (table store.old) (place_at x y) own k1 k2) }
-    ensures links { Links (ranking M.Distance.Ranked.precedes (dist measure.now) (bound measure.now)) (table store.old) }
-    ensures table { table store.new ≡ table store.old }
-    ensures frames { frames store.new ≡ frames store.old }
-    ensures opened { Inside (table store.new) (opened store.new) }
-    ensures bounded { metered store.new ≤ 2000000 }
+    ensures told { result ≡ outcome (refused_mutual (S.table store.old) x y k1 k2 (length work.old) (length second.old)) (mutual_answers (ranking M.Distance.Ranked.precedes (M.dist measure.now) (M.bound measure.now)) (S.table store.old) (place_at x y) own k1 k2) (mutual_openings (ranking M.Distance.Ranked.precedes (M.dist measure.now) (M.bound measure.now)) (S.table store.old) (place_at x y) own k1 k2) (length answers.old) }
+    ensures answers { answers.new ≡ filled (refused_mutual (S.table store.old) x y k1 k2 (length work.old) (length second.old)) (mutual_answers (ranking M.Distance.Ranked.precedes (M.dist measure.now) (M.bound measure.now)) (S.table store.old) (place_at x y) own k1 k2) answers.old }
+    ensures metered { IfOk result (λ t. S.metered store.new ≡ mutual_openings (ranking M.Distance.Ranked.precedes (M.dist measure.now) (M.bound measure.now)) (S.table store.old) (place_at x y) own k1 k2) }
+    ensures links { Links (ranking M.Distance.Ranked.precedes (M.dist measure.now) (M.bound measure.now)) (S.table store.old) }
+    ensures table { S.table store.new ≡ S.table store.old }
+    ensures frames { S.frames store.new ≡ S.frames store.old }
+    ensures opened { Inside (S.table store.new) (S.opened store.new) }
+    ensures bounded { S.metered store.new ≤ 2000000 }
     ensures work { (length work.new ≡ length work.old) × (length second.new ≡ length second.old) }
 {
     let shortest = work.len().min(second.len());

@@ -18,9 +18,9 @@ pub(crate) fn start<S: NodeStore, M: Measure>(
     view: View,
     items: &mut [Item<M::Distance>],
 ) -> usize
-    requires { work_places (table store.now) ≤ length items.old }
-    ensures waiting { Waiting (scene M.Distance.Ranked.precedes (table store.now) (dist measure.now) (bound measure.now) view) items.new result }
-    ensures whole { left (scene M.Distance.Ranked.precedes (table store.now) (dist measure.now) (bound measure.now) view) (take result items.new) ≡ sorted (ahead M.Distance.Ranked.precedes) (all_items (scene M.Distance.Ranked.precedes (table store.now) (dist measure.now) (bound measure.now) view)) }
+    requires { work_places (S.table store.now) ≤ length items.old }
+    ensures waiting { Waiting (scene M.Distance.Ranked.precedes (S.table store.now) (M.dist measure.now) (M.bound measure.now) view) items.new result }
+    ensures whole { left (scene M.Distance.Ranked.precedes (S.table store.now) (M.dist measure.now) (M.bound measure.now) view) (take result items.new) ≡ sorted (ahead M.Distance.Ranked.precedes) (all_items (scene M.Distance.Ranked.precedes (S.table store.now) (M.dist measure.now) (M.bound measure.now) view)) }
 {
     let root = Item {
         distance: measure.near(view.from, &store.root_box()),
@@ -39,11 +39,11 @@ pub(crate) fn next_label<S: NodeStore, M: Measure>(
     items: &mut [Item<M::Distance>],
     len: usize,
 ) -> Option<Arrival<M::Distance>>
-    requires waiting { Waiting (scene M.Distance.Ranked.precedes (table store.old) (dist measure.now) (bound measure.now) view) items.old len }
-    requires meter { metered store.old + length (left (scene M.Distance.Ranked.precedes (table store.old) (dist measure.now) (bound measure.now) view) (take len items.old)) ≤ 2000000 }
-    ensures table { table store.new ≡ table store.old }
-    ensures frames { frames store.new ≡ frames store.old }
-    ensures next { Next (scene M.Distance.Ranked.precedes (table store.old) (dist measure.now) (bound measure.now) view) limit (left (scene M.Distance.Ranked.precedes (table store.old) (dist measure.now) (bound measure.now) view) (take len items.old)) items.new (metered store.old) (metered store.new) result }
+    requires waiting { Waiting (scene M.Distance.Ranked.precedes (S.table store.old) (M.dist measure.now) (M.bound measure.now) view) items.old len }
+    requires meter { S.metered store.old + length (left (scene M.Distance.Ranked.precedes (S.table store.old) (M.dist measure.now) (M.bound measure.now) view) (take len items.old)) ≤ 2000000 }
+    ensures table { S.table store.new ≡ S.table store.old }
+    ensures frames { S.frames store.new ≡ S.frames store.old }
+    ensures next { Next (scene M.Distance.Ranked.precedes (S.table store.old) (M.dist measure.now) (M.bound measure.now) view) limit (left (scene M.Distance.Ranked.precedes (S.table store.old) (M.dist measure.now) (M.bound measure.now) view) (take len items.old)) items.new (S.metered store.old) (S.metered store.new) result }
 {
     let mut waiting = len;
     while let Some((x, rest)) = pop(items, waiting) {

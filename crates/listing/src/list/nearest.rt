@@ -19,7 +19,7 @@ fn find_all<M: Measure>(
     from: Place,
     labels: &[Label],
 ) -> Result<Vec<Found<M::Distance>>, AllocError>
-    ensures { IfOk result (λ v. v.items ≡ map (found (dist measure.now from)) labels.now) }
+    ensures { IfOk result (λ v. v.items ≡ map (found (M.dist measure.now from)) labels.now) }
 {
     let mut all = Vec::new(heap);
     for l in labels {
@@ -74,7 +74,7 @@ pub fn nearest_of<M: Measure>(
     k: u32,
 ) -> Result<Vec<Found<M::Distance>>, Failure>
     ensures refusal { MatchResult result (λ _. refused_listing x y k ≡ None) (λ f. elim f [ Refused e ↦ refused_listing x y k ≡ Some e | NoMemory ↦ refused_listing x y k ≡ None ]) }
-    ensures listing { IfOk result (λ v. v.items ≡ listing M.Distance.Ranked.precedes (dist measure.now (place_at x y)) k labels.now) }
+    ensures listing { IfOk result (λ v. v.items ≡ listing M.Distance.Ranked.precedes (M.dist measure.now (place_at x y)) k labels.now) }
 {
     if k < 1 || k > 64 {
         return Err(Failure::Refused(Refusal {
@@ -98,7 +98,7 @@ impl LabelList {
         k: u32,
     ) -> Result<Vec<Found<M::Distance>>, Failure>
         ensures refusal { MatchResult result (λ _. refused_listing x y k ≡ None) (λ f. elim f [ Refused e ↦ refused_listing x y k ≡ Some e | NoMemory ↦ refused_listing x y k ≡ None ]) }
-        ensures listing { IfOk result (λ v. v.items ≡ listing M.Distance.Ranked.precedes (dist measure.now (place_at x y)) k (labels_of self.now)) }
+        ensures listing { IfOk result (λ v. v.items ≡ listing M.Distance.Ranked.precedes (M.dist measure.now (place_at x y)) k (labels_of self.now)) }
     {
         nearest_of(heap, self.labels.as_slice(), measure, x, y, k)
     }

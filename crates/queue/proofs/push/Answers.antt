@@ -6,8 +6,8 @@ use Rattle.queue.proofs.Sorting.{sorted-push}
 use Rattle.queue.proofs.Sifting.{heap-agrees}
 use Rattle.queue.proofs.push.Goals as goal
 
-pub sift-up-requires : goal.sift-up-requires
-sift-up-requires g c = simp length-set (omega arith)
+pub sift_up-requires : goal.sift_up-requires
+sift_up-requires g c = simp length-set (omega arith)
 
 pub returns : goal.returns
 returns g c =
@@ -19,8 +19,8 @@ returns g c =
       told = grind (arith, nat_tests);
       queue = record {
         full = λ h. absurd (omega arith);
-        contents = λ _. c.sift-up.ensures.contents ∙ ap (sorted lt) (take_more_set items a.len a.x room) ∙ sorted-push g.met.T.Ranked.ordered (take a.len items) a.x;
-        shape = λ _ h. c.sift-up.ensures.shape (heap-agrees _ items (set items a.len a.x) a.len (λ k d b. get_or-set_other items a.len k a.x d (omega arith)) h);
-        rest = c.sift-up.ensures.rest ∙ drop-set-lt (a.len + 1) items a.len a.x (omega arith);
+        contents = λ _. c.sift_up.ensures.contents ∙ ap (sorted lt) (take_more_set items a.len a.x room) ∙ sorted-push g.met.T.Ranked.ordered (take a.len items) a.x;
+        shape = λ _ h. c.sift_up.ensures.shape (heap-agrees _ items (set items a.len a.x) a.len (λ k d b. get_or-set_other items a.len k a.x d (omega arith)) h);
+        rest = c.sift_up.ensures.rest ∙ drop-set-lt (a.len + 1) items a.len a.x (omega arith);
       };
     }

@@ -8,5 +8,5 @@ pub returns : goal.returns
 returns c =
     let fx : SFits w32 c.args.x = c.ranges.x in
     let fy : SFits w32 c.args.y = c.ranges.y in
-    let told : Ok c.in-ok-place.place ≡ place_from c.args.x c.args.y = simp to_z-of_z at c.in-ok-place.ensures in
+    let told : Ok c.in_ok-place.place ≡ place_from c.args.x c.args.y = simp to_z-of_z at c.in_ok-place.ensures in
     label-from _ c.args.number c.args.x c.args.y refl told

@@ -3,8 +3,8 @@ use Rattle.std.proofs.lemmas.Int.{ints, clamps}
 use Rattle.geometry.proofs.Boxes.{rect-is, smallest}
 use Rattle.geometry.proofs.rect.Rect.around.Goals as goal
 
-pub invariant-of-result : goal.invariant-of-result
-invariant-of-result c = ((omega (arith, ints, clamps), omega (arith, ints, clamps)), ((omega (arith, ints, clamps), omega (arith, ints, clamps), omega (arith, ints, clamps), omega (arith, ints, clamps)), tt))
+pub invariant_of-result : goal.invariant_of-result
+invariant_of-result c = record { upright = (omega (arith, ints, clamps), omega (arith, ints, clamps)); near = (omega (arith, ints, clamps), omega (arith, ints, clamps), omega (arith, ints, clamps), omega (arith, ints, clamps)) }
 
 pub returns : goal.returns
 returns c = record {
