@@ -9,10 +9,10 @@ pub loop-e-init : goal.loop-e-init
 loop-e-init c = bad-none (box_fine (image_of c.args.bytes.now))
 
 pub loop-e-preserved : goal.loop-e-preserved
-loop-e-preserved c = bad_more (box_fine (image_of c.args.bytes.now)) c.loop-e.e c.loop-e.invariant (sym c.is-box-fine.ensures ∙ c.if-not-is-box-fine.false)
+loop-e-preserved c = bad_more (box_fine (image_of c.args.bytes.now)) c.loop-e.e c.loop-e.invariant (sym c.is_box_fine.ensures ∙ c.if-not-is_box_fine.false)
 
-pub returns-then-not-is-box-fine : goal.returns-then-not-is-box-fine
-returns-then-not-is-box-fine c = scan-stops (box_fine (image_of c.args.bytes.now)) (λ _. BadBox) c.loop-e.e c.args.m c.loop-e.invariant (sym c.is-box-fine.ensures ∙ c.if-not-is-box-fine.true) c.loop-e-test.true
+pub returns-then-not-is_box_fine : goal.returns-then-not-is_box_fine
+returns-then-not-is_box_fine c = scan-stops (box_fine (image_of c.args.bytes.now)) (λ _. BadBox) c.loop-e.e c.args.m c.loop-e.invariant (sym c.is_box_fine.ensures ∙ c.if-not-is_box_fine.true) c.loop-e-test.true
 
 pub returns : goal.returns
 returns c = scan-done (box_fine (image_of c.args.bytes.now)) (λ _. BadBox) c.loop-e.e c.args.m c.loop-e.invariant c.loop-e.auto.e-end c.loop-e-test.false

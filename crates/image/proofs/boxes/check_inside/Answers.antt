@@ -4,13 +4,13 @@ use Rattle.image.specs.Layout.{image_of}
 use Rattle.image.specs.Checks.{inside_fine}
 use Rattle.image.proofs.Scanning.{bad-none, bad_more, scan-done, scan-stops, root-inside, entry-inside, leads-owner, leads-before}
 use Rattle.image.proofs.boxes.check_inside.Goals as goal
-use Rattle.image.proofs.boxes.check_inside.Goals.{else-e-ge1-via-then-e-ge1+else-not-is-inside, else-e-ge1-via-else-e-ge1}
+use Rattle.image.proofs.boxes.check_inside.Goals.{else-e-ge1-via-then-e-ge1+else-not-is_inside, else-e-ge1-via-else-e-ge1}
 
 pub loop-e-init : goal.loop-e-init
 loop-e-init c = bad-none (inside_fine (image_of c.args.bytes.now))
 
-pub is-inside-requires : goal.is-inside-requires
-is-inside-requires c = record {
+pub is_inside-requires : goal.is_inside-requires
+is_inside-requires c = record {
   sized = c.requires.sized;
   within = (leads-before c.args.bytes.now c.args.owners.now c.args.leaders.now c.args.n c.args.m c.requires.sized c.requires.owned c.requires.led c.loop-e.e c.if-e-ge1.true c.loop-e-test.true, c.loop-e-test.true);
 }
@@ -20,16 +20,16 @@ loop-e-preserved c =
     let d = image_of c.args.bytes.now in
     let e = c.loop-e.e in
     let fine : inside_fine d e ≡ true = elim c.else-e-ge1.branch [
-      | else-e-ge1-via-then-e-ge1+else-not-is-inside w ↦ entry-inside d e _ true w.if-e-ge1.true (leads-owner c.args.bytes.now c.args.owners.now c.args.leaders.now c.args.n c.args.m c.requires.sized c.requires.owned c.requires.led e w.if-e-ge1.true c.loop-e-test.true) (sym w.if-not-is-inside.ensures)
+      | else-e-ge1-via-then-e-ge1+else-not-is_inside w ↦ entry-inside d e _ true w.if-e-ge1.true (leads-owner c.args.bytes.now c.args.owners.now c.args.leaders.now c.args.n c.args.m c.requires.sized c.requires.owned c.requires.led e w.if-e-ge1.true c.loop-e-test.true) (sym w.if-not-is_inside.ensures)
       | else-e-ge1-via-else-e-ge1 w ↦ root-inside d e w.if-e-ge1.false
     ] in
     bad_more (inside_fine d) e c.loop-e.invariant fine
 
-pub returns-then-not-is-inside : goal.returns-then-not-is-inside
-returns-then-not-is-inside c =
+pub returns-then-not-is_inside : goal.returns-then-not-is_inside
+returns-then-not-is_inside c =
     let d = image_of c.args.bytes.now in
     let e = c.loop-e.e in
-    let bad : inside_fine d e ≡ false = entry-inside d e _ false c.if-e-ge1.true (leads-owner c.args.bytes.now c.args.owners.now c.args.leaders.now c.args.n c.args.m c.requires.sized c.requires.owned c.requires.led e c.if-e-ge1.true c.loop-e-test.true) (sym c.if-not-is-inside.ensures) in
+    let bad : inside_fine d e ≡ false = entry-inside d e _ false c.if-e-ge1.true (leads-owner c.args.bytes.now c.args.owners.now c.args.leaders.now c.args.n c.args.m c.requires.sized c.requires.owned c.requires.led e c.if-e-ge1.true c.loop-e-test.true) (sym c.if-not-is_inside.ensures) in
     scan-stops (inside_fine d) (λ _. OutsideBox) e c.args.m c.loop-e.invariant bad c.loop-e-test.true
 
 pub returns : goal.returns

@@ -3,21 +3,21 @@ use Rattle.image.specs.Layout.{two, image_length}
 use Rattle.image.proofs.Chaining.{rest-length, header-sizes, header-long, header-fine}
 use Rattle.image.proofs.checks.read_sizes.Goals as goal
 
-pub returns-then-not-is-in-size : goal.returns-then-not-is-in-size
-returns-then-not-is-in-size c =
+pub returns-then-not-is_in_size : goal.returns-then-not-is_in_size
+returns-then-not-is_in_size c =
     let bs = c.args.bytes.now in
     let long : 4 ≤ length bs = search rules in
-    header-sizes bs (two bs 0) (two bs 2) long refl refl (sym c.if-not-is-in-size.ensures)
+    header-sizes bs (two bs 0) (two bs 2) long refl refl (sym c.if-not-is_in_size.ensures)
 
 pub returns-then-rest-n : goal.returns-then-rest-n
 returns-then-rest-n c =
     let bs = c.args.bytes.now in
     let long : 4 ≤ length bs = search rules in
-    header-long bs (two bs 0) (two bs 2) long refl refl (sym c.if-not-is-in-size.ensures) (λ e. c.if-rest-n.true (omega (arith, rest-length bs, e)))
+    header-long bs (two bs 0) (two bs 2) long refl refl (sym c.if-not-is_in_size.ensures) (λ e. c.if-rest-n.true (omega (arith, rest-length bs, e)))
 
 pub returns : goal.returns
 returns c =
     let bs = c.args.bytes.now in
     let long : 4 ≤ length bs = search rules in
     let whole : length bs ≡ image_length (two bs 0) (two bs 2) = omega (arith, rest-length bs, c.if-rest-n.false) in
-    header-fine bs (two bs 0) (two bs 2) long refl refl (sym c.if-not-is-in-size.ensures) whole
+    header-fine bs (two bs 0) (two bs 2) long refl refl (sym c.if-not-is_in_size.ensures) whole

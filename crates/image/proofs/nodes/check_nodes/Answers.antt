@@ -17,8 +17,8 @@ loop-i-preserved c =
     let l = c.loop-i in
     (node-past bs l.left.now l.i l.invariant.0, bad_more (node_fine (image_of bs)) l.i l.invariant.1 (node-good bs l.left.now l.i l.invariant.0 c.if-level-gt7.false c.if-count-gt12.false))
 
-pub returns-in-default-left : goal.returns-in-default-left
-returns-in-default-left c =
+pub returns-in_default-left : goal.returns-in_default-left
+returns-in_default-left c =
     let bs = c.args.bytes.now in
     let l = c.loop-i in
     let short : length l.left.now < 2 = search rules in

@@ -5,13 +5,13 @@ use Rattle.image.specs.Owners.{start-zero}
 use Rattle.image.proofs.Scanning.{start-next, start-within, owners-more, owner-below}
 use Rattle.image.proofs.nodes.find_owners.Goals as goal
 
-pub overflow-add-end : goal.overflow-add-end
-overflow-add-end c =
+pub overflow_add-end : goal.overflow_add-end
+overflow_add-end c =
     let within = start-within (image_of c.args.bytes.now) c.loop-i.i c.args.n c.args.m c.loop-i-test.true c.requires.sum in
     omega (arith, within)
 
-pub write-all-requires : goal.write-all-requires
-write-all-requires c =
+pub write_all-requires : goal.write_all-requires
+write_all-requires c =
     let within = start-within (image_of c.args.bytes.now) c.loop-i.i c.args.n c.args.m c.loop-i-test.true c.requires.sum in
     (omega arith, omega (arith, within, c.requires.room))
 
@@ -22,8 +22,8 @@ pub loop-i-preserved : goal.loop-i-preserved
 loop-i-preserved c =
     let d = image_of c.args.bytes.now in
     let l = c.loop-i in
-    let w = c.write-all in
-    (omega (arith, start-next d l.i), owners-more d l.owners w.new.list c.args.n l.i l.at c.count-of.result c.requires.sized.nodes c.loop-i-test.true l.invariant.0 c.count-of.ensures l.invariant.1 w.ensures.before w.ensures.within)
+    let w = c.write_all in
+    (omega (arith, start-next d l.i), owners-more d l.owners w.new.list c.args.n l.i l.at c.count_of.result c.requires.sized.nodes c.loop-i-test.true l.invariant.0 c.count_of.ensures l.invariant.1 w.ensures.before w.ensures.within)
 
 pub returns : goal.returns
 returns c =

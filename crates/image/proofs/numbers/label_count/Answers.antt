@@ -4,7 +4,7 @@ use Rattle.image.specs.Layout.{image_of}
 use Rattle.image.specs.Results.{numbers_below}
 use Rattle.image.proofs.Scanning.{numbers-none, numbers-all, numbers-leaf, numbers-other}
 use Rattle.image.proofs.numbers.label_count.Goals as goal
-use Rattle.image.proofs.numbers.label_count.Goals.{then-is-leaf-entry, else-is-leaf-entry}
+use Rattle.image.proofs.numbers.label_count.Goals.{then-is_leaf_entry, else-is_leaf_entry}
 
 pub loop-e-init : goal.loop-e-init
 loop-e-init c = (sym (ap length (numbers-none (image_of c.args.bytes.now))), omega arith)
@@ -13,9 +13,9 @@ pub loop-e-preserved : goal.loop-e-preserved
 loop-e-preserved c =
     let d = image_of c.args.bytes.now in
     let e = c.loop-e.e in
-    elim c.if-is-leaf-entry.branch [
-      | then-is-leaf-entry w ↦ (omega (arith, w.count-is, ap length (numbers-leaf d e (sym w.if-is-leaf-entry.ensures)), length_push (numbers_below d e) (d.target e)), omega (arith, w.count-is))
-      | else-is-leaf-entry w ↦ (omega (arith, w.count-is, ap length (numbers-other d e (sym w.if-is-leaf-entry.ensures))), omega (arith, w.count-is))
+    elim c.if-is_leaf_entry.branch [
+      | then-is_leaf_entry w ↦ (omega (arith, w.count-is, ap length (numbers-leaf d e (sym w.if-is_leaf_entry.ensures)), length_push (numbers_below d e) (d.target e)), omega (arith, w.count-is))
+      | else-is_leaf_entry w ↦ (omega (arith, w.count-is, ap length (numbers-other d e (sym w.if-is_leaf_entry.ensures))), omega (arith, w.count-is))
     ]
 
 pub returns : goal.returns

@@ -5,5 +5,5 @@ use Rattle.image.proofs.reading.east_of.Goals as goal
 
 pub returns : goal.returns
 returns c =
-    let f : SFits w32 c.signed-at.result = search rules in
-    to_z-of_z w32 c.signed-at.result f ∙ c.signed-at.ensures ∙ east-is c.args.bytes.now c.args.n c.args.e c.requires.0.nodes
+    let f : SFits w32 c.signed_at.result = search rules in
+    to_z-of_z w32 c.signed_at.result f ∙ c.signed_at.ensures ∙ east-is c.args.bytes.now c.args.n c.args.e c.requires.0.nodes

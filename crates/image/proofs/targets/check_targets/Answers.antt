@@ -9,24 +9,24 @@ use Rattle.image.proofs.targets.check_targets.Goals as goal
 pub loop-e-init : goal.loop-e-init
 loop-e-init c = (bad-none (target_fine (image_of c.args.bytes.now)), c.requires.led)
 
-pub note-leader-requires : goal.note-leader-requires
-note-leader-requires c = record {
+pub note_leader-requires : goal.note_leader-requires
+note_leader-requires c = record {
   sized = c.requires.sized;
   owned = c.requires.owned;
   led = c.loop-e.invariant.1;
   within = c.loop-e-test.true;
-  fine = sym c.if-not-is-target-fine.ensures;
+  fine = sym c.if-not-is_target_fine.ensures;
 }
 
 pub loop-e-preserved : goal.loop-e-preserved
-loop-e-preserved c = (bad_more (target_fine (image_of c.args.bytes.now)) c.loop-e.e c.loop-e.invariant.0 (sym c.if-not-is-target-fine.ensures), c.note-leader.ensures)
+loop-e-preserved c = (bad_more (target_fine (image_of c.args.bytes.now)) c.loop-e.e c.loop-e.invariant.0 (sym c.if-not-is_target_fine.ensures), c.note_leader.ensures)
 
-pub returns-then-not-is-target-fine : goal.returns-then-not-is-target-fine
-returns-then-not-is-target-fine c =
+pub returns-then-not-is_target_fine : goal.returns-then-not-is_target_fine
+returns-then-not-is_target_fine c =
     let d = image_of c.args.bytes.now in
     let e = c.loop-e.e in
     record {
-      told = ap (λ why. Err (refusal why e)) c.target-reason.ensures ∙ scan-stops (target_fine d) (target_reason d) e c.args.m c.loop-e.invariant.0 (sym c.if-not-is-target-fine.ensures) c.loop-e-test.true;
+      told = ap (λ why. Err (refusal why e)) c.target_reason.ensures ∙ scan-stops (target_fine d) (target_reason d) e c.args.m c.loop-e.invariant.0 (sym c.if-not-is_target_fine.ensures) c.loop-e-test.true;
       led = tt;
     }
 

@@ -13,49 +13,50 @@ use Rattle.image.specs.Lawfulness.{lawful-table}
 use Rattle.image.proofs.Showing.{accepted-roomy, ok-none, has-entries}
 use Rattle.image.proofs.store.ImageStore.open_image.Goals as goal
 
-pub returns-in-err-check : goal.returns-in-err-check
-returns-in-err-check c =
+pub returns-in_err-check : goal.returns-in_err-check
+returns-in_err-check c =
     let bs = c.args.bytes.now in
     let room = length c.args.numbers.now in
-    let p = err_from_is_err_and c.from-residual.result c.from-residual.ensures.1 in
-    let told : c.from-residual.result ≡ as_result (verdict bs room) = p.1 ∙ ap (λ e. Err e) p.2 ∙ c.in-err-check.ensures in
-    let never : is_ok c.from-residual.result ≡ false = ap is_ok p.1 in
+    let p = err_from_is_err_and c.from_residual.result c.from_residual.ensures.1 in
+    let told : c.from_residual.result ≡ as_result (verdict bs room) = p.1 ∙ ap (λ e. Err e) p.2 ∙ c.in_err-check.ensures in
+    let never : is_ok c.from_residual.result ≡ false = ap is_ok p.1 in
     record {
       told = told;
-      accepted = λ h. absurd (both_ways (is_ok c.from-residual.result) never h);
+      accepted = λ h. absurd (both_ways (is_ok c.from_residual.result) never h);
       refused = λ _. refl;
-      exactly = λ fits. (λ h. absurd (both_ways (is_ok c.from-residual.result) never h), λ o. ap is_ok told ∙ ap (λ v. is_ok (as_result v)) (obeys-accepted bs room fits o));
-      lawful = λ h. absurd (both_ways (is_ok c.from-residual.result) never h);
+      exactly = λ fits. (λ h. absurd (both_ways (is_ok c.from_residual.result) never h), λ o. ap is_ok told ∙ ap (λ v. is_ok (as_result v)) (obeys-accepted bs room fits o));
+      lawful = λ h. absurd (both_ways (is_ok c.from_residual.result) never h);
     }
 
 pub refill-requires : goal.refill-requires
 refill-requires c =
     let bs = c.args.bytes.now in
-    let a = accepted (image_of bs) (length bs) (length c.args.numbers.now) (ok-none (verdict bs (length c.args.numbers.now)) (ap is_ok (sym c.in-ok-check.ensures))) in
+    let a = accepted (image_of bs) (length bs) (length c.args.numbers.now) (ok-none (verdict bs (length c.args.numbers.now)) (ap is_ok (sym c.in_ok-check.ensures))) in
     omega (arith, a.whole, a.passed.nodes.1, a.passed.entries.1, c.args.self.now.roomy)
 
-pub invariant-of-self : goal.invariant-of-self
-invariant-of-self c =
+pub invariant_of-self : goal.invariant_of-self
+invariant_of-self c =
     let bs = c.args.bytes.now in
     let room = length c.args.numbers.now in
-    let none = ok-none (verdict bs room) (ap is_ok (sym c.in-ok-check.ensures)) in
-    let sizes = c.in-ok-nodes.ensures.1 in
-    let same = sym c.refill.ensures.items in (
-      omega (arith, c.refill.ensures.room, c.args.self.now.roomy),
-      (
-        subst (λ l. is_some (verdict l 1537) ≡ false) same (ap is_some (accepted-roomy bs room none)),
-        ((sizes.nodes ∙ ap (λ l. (image_of l).nodes) same, sizes.entries ∙ ap (λ l. (image_of l).entries) same), (refl, (omega arith, tt))),
-      ),
-    )
+    let none = ok-none (verdict bs room) (ap is_ok (sym c.in_ok-check.ensures)) in
+    let sizes = c.in_ok-nodes.ensures.1 in
+    let same = sym c.refill.ensures.items in
+    record {
+      roomy = omega (arith, c.refill.ensures.room, c.args.self.now.roomy);
+      fine = subst (λ l. is_some (verdict l 1537) ≡ false) same (ap is_some (accepted-roomy bs room none));
+      sized = (sizes.nodes ∙ ap (λ l. (image_of l).nodes) same, sizes.entries ∙ ap (λ l. (image_of l).entries) same);
+      within = refl;
+      low = omega arith;
+    }
 
 pub returns : goal.returns
 returns c =
     let bs = c.args.bytes.now in
     let room = length c.args.numbers.now in
-    let none = ok-none (verdict bs room) (ap is_ok (sym c.in-ok-check.ensures)) in
+    let none = ok-none (verdict bs room) (ap is_ok (sym c.in_ok-check.ensures)) in
     let same = sym c.refill.ensures.items in
     record {
-      told = c.in-ok-check.ensures;
+      told = c.in_ok-check.ensures;
       accepted = λ _. record { table = ap (λ l. table_of (image_of l)) c.refill.ensures.items; closed = refl; meter = refl };
       refused = λ h. absurd (both_ways true h refl);
       exactly = λ fits. (λ _. accepted-obeys bs room none, λ _. refl);
@@ -65,10 +66,10 @@ returns c =
       );
     }
 
-pub returns-in-err-nodes : goal.returns-in-err-nodes
-returns-in-err-nodes c =
+pub returns-in_err-nodes : goal.returns-in_err-nodes
+returns-in_err-nodes c =
     let bs = c.args.bytes.now in
     let room = length c.args.numbers.now in
-    let none = ok-none (verdict bs room) (ap is_ok (sym c.in-ok-check.ensures)) in
-    let header = sym none ∙ verdict-header bs room c.in-err-nodes.field-0.0 c.in-err-nodes.ensures in
+    let none = ok-none (verdict bs room) (ap is_ok (sym c.in_ok-check.ensures)) in
+    let header = sym none ∙ verdict-header bs room c.in_err-nodes.field-0.0 c.in_err-nodes.ensures in
     let z : ◌≡◌ {A = ℕ} 0 1 = cc in absurd (omega arith)

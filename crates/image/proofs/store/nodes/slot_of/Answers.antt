@@ -6,43 +6,43 @@ use Rattle.image.specs.Opened.{label_slot, branch_slot}
 use Rattle.image.specs.Held.{held, slot-past, entry_in, leaf-slot, inner-slot}
 use Rattle.image.proofs.store.nodes.slot_of.Goals as goal
 
-pub returns-then-j-count-of : goal.returns-then-j-count-of
-returns-then-j-count-of c = sym (slot-past (image_of c.args.bytes.now) c.args.i c.args.j (omega arith))
+pub returns-then-j-count_of : goal.returns-then-j-count_of
+returns-then-j-count_of c = sym (slot-past (image_of c.args.bytes.now) c.args.i c.args.j (omega arith))
 
-pub overflow-add-first : goal.overflow-add-first
-overflow-add-first c =
+pub overflow_add-first : goal.overflow_add-first
+overflow_add-first c =
     let a = c.args in
     let e = entry_in (image_of a.bytes.now) (held a.bytes.now c.requires.fine).passed a.i a.j (omega (arith, c.requires.sized.nodes, c.requires.node.0)) (omega arith) in
     let w : a.first + a.j < 1537 = omega (arith, e.0, c.requires.node.1, (held a.bytes.now c.requires.fine).passed.entries.1) in search rules
 
-pub overflow-add-first-else-level-of-eq0 : goal.overflow-add-first-else-level-of-eq0
-overflow-add-first-else-level-of-eq0 c =
+pub overflow_add-first-else-level_of-eq0 : goal.overflow_add-first-else-level_of-eq0
+overflow_add-first-else-level_of-eq0 c =
     let a = c.args in
     let e = entry_in (image_of a.bytes.now) (held a.bytes.now c.requires.fine).passed a.i a.j (omega (arith, c.requires.sized.nodes, c.requires.node.0)) (omega arith) in
     let w : a.first + a.j < 1537 = omega (arith, e.0, c.requires.node.1, (held a.bytes.now c.requires.fine).passed.entries.1) in search rules
 
-pub label-slot-requires : goal.label-slot-requires
-label-slot-requires c =
+pub label_slot-requires : goal.label_slot-requires
+label_slot-requires c =
     let a = c.args in
     let e = entry_in (image_of a.bytes.now) (held a.bytes.now c.requires.fine).passed a.i a.j (omega (arith, c.requires.sized.nodes, c.requires.node.0)) (omega arith) in
     (c.requires.sized, omega (arith, e.0, c.requires.node.1, c.requires.sized.entries))
 
-pub branch-slot-requires : goal.branch-slot-requires
-branch-slot-requires c =
+pub branch_slot-requires : goal.branch_slot-requires
+branch_slot-requires c =
     let a = c.args in
     let e = entry_in (image_of a.bytes.now) (held a.bytes.now c.requires.fine).passed a.i a.j (omega (arith, c.requires.sized.nodes, c.requires.node.0)) (omega arith) in
     (c.requires.sized, omega (arith, e.0, c.requires.node.1, c.requires.sized.entries))
 
-pub returns-then-level-of-eq0 : goal.returns-then-level-of-eq0
-returns-then-level-of-eq0 c =
+pub returns-then-level_of-eq0 : goal.returns-then-level_of-eq0
+returns-then-level_of-eq0 c =
     let a = c.args in
     let d = image_of a.bytes.now in
-    c.label-slot.ensures ∙ ap (λ s. label_slot (label_from (d.target (s + a.j)) (d.west (s + a.j)) (d.south (s + a.j)))) c.requires.node.1
+    c.label_slot.ensures ∙ ap (λ s. label_slot (label_from (d.target (s + a.j)) (d.west (s + a.j)) (d.south (s + a.j)))) c.requires.node.1
     ∙ leaf-slot d (held a.bytes.now c.requires.fine).passed a.i a.j (omega (arith, c.requires.sized.nodes, c.requires.node.0)) (omega arith) (omega arith)
 
-pub returns-else-level-of-eq0 : goal.returns-else-level-of-eq0
-returns-else-level-of-eq0 c =
+pub returns-else-level_of-eq0 : goal.returns-else-level_of-eq0
+returns-else-level_of-eq0 c =
     let a = c.args in
     let d = image_of a.bytes.now in
-    c.branch-slot.ensures ∙ ap (λ s. branch_slot (d.target (s + a.j)) (rect_from (d.west (s + a.j)) (d.south (s + a.j)) (d.east (s + a.j)) (d.north (s + a.j)))) c.requires.node.1
-    ∙ inner-slot d (held a.bytes.now c.requires.fine).passed a.i a.j (omega (arith, c.requires.sized.nodes, c.requires.node.0)) (omega arith) (λ z. c.if-level-of-eq0.false (c.level-of.ensures ∙ z))
+    c.branch_slot.ensures ∙ ap (λ s. branch_slot (d.target (s + a.j)) (rect_from (d.west (s + a.j)) (d.south (s + a.j)) (d.east (s + a.j)) (d.north (s + a.j)))) c.requires.node.1
+    ∙ inner-slot d (held a.bytes.now c.requires.fine).passed a.i a.j (omega (arith, c.requires.sized.nodes, c.requires.node.0)) (omega arith) (λ z. c.if-level_of-eq0.false (c.level_of.ensures ∙ z))

@@ -5,10 +5,10 @@ use Rattle.lattice.proofs.Refused.{none-moved, accepted}
 use Rattle.lattice.specs.Fitting.{exact}
 use Rattle.lattice.proofs.lattice.Lattice.new.Goals as goal
 
-pub invariant-of-result : goal.invariant-of-result
-invariant-of-result c =
+pub invariant_of-result : goal.invariant_of-result
+invariant_of-result c =
     let a = accepted c.args.rows c.args.columns c.args.step (to_z w32 (of_z w32 c.args.x)) (to_z w32 (of_z w32 c.args.y)) c.args.first c.in-None.ensures in
-    (a.lined, (a.stepped, (a.across, (a.upward, (a.numbered, (refl, (omega arith, tt)))))))
+    record { lined = a.lined; stepped = a.stepped; across = a.across; upward = a.upward; numbered = a.numbered; within = refl; bounded = omega arith }
 
 pub returns-in-None : goal.returns-in-None
 returns-in-None c =

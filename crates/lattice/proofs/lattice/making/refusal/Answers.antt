@@ -4,27 +4,27 @@ use Rattle.std.proofs.lemmas.Bool.{and_left, and_right}
 use Rattle.lattice.specs.Grid.{is_reach}
 use Rattle.lattice.proofs.Refused.{refuses-places, refuses-numbers, refuses-none}
 use Rattle.lattice.proofs.lattice.making.refusal.Goals as goal
-use Rattle.lattice.proofs.lattice.making.refusal.Goals.{then-not-is-reach-via-then-not-is-reach, then-not-is-reach-via-else-not-is-reach+then-not-is-reach-2}
+use Rattle.lattice.proofs.lattice.making.refusal.Goals.{then-not-is_reach-via-then-not-is_reach, then-not-is_reach-via-else-not-is_reach+then-not-is_reach-2}
 
-pub returns-then-not-is-reach : goal.returns-then-not-is-reach
-returns-then-not-is-reach c =
+pub returns-then-not-is_reach : goal.returns-then-not-is_reach
+returns-then-not-is_reach c =
     let fx : SFits w32 c.args.x = c.ranges.x in
     let fy : SFits w32 c.args.y = c.ranges.y in
     let off : (is_reach c.args.x c.args.step c.args.columns && is_reach c.args.y c.args.step c.args.rows) ≡ false =
-    elim c.then-not-is-reach.branch [
-      | then-not-is-reach-via-then-not-is-reach w ↦ and_left _ _ (sym (simp to_z-of_z at w.if-not-is-reach.ensures))
-      | then-not-is-reach-via-else-not-is-reach+then-not-is-reach-2 w ↦ and_right _ _ (sym (simp to_z-of_z at w.if-not-is-reach-2.ensures))
+    elim c.then-not-is_reach.branch [
+      | then-not-is_reach-via-then-not-is_reach w ↦ and_left _ _ (sym (simp to_z-of_z at w.if-not-is_reach.ensures))
+      | then-not-is_reach-via-else-not-is_reach+then-not-is_reach-2 w ↦ and_right _ _ (sym (simp to_z-of_z at w.if-not-is_reach-2.ensures))
     ] in
-    refuses-places c.args.rows c.args.columns c.args.step c.args.x c.args.y c.args.first c.if-not-is-sized.ensures off
+    refuses-places c.args.rows c.args.columns c.args.step c.args.x c.args.y c.args.first c.if-not-is_sized.ensures off
 
-pub returns-then-not-is-numbered : goal.returns-then-not-is-numbered
-returns-then-not-is-numbered c =
+pub returns-then-not-is_numbered : goal.returns-then-not-is_numbered
+returns-then-not-is_numbered c =
     let fx : SFits w32 c.args.x = c.ranges.x in
     let fy : SFits w32 c.args.y = c.ranges.y in
-    refuses-numbers c.args.rows c.args.columns c.args.step c.args.x c.args.y c.args.first c.if-not-is-sized.ensures (simp to_z-of_z at c.if-not-is-reach.ensures) (simp to_z-of_z at c.if-not-is-reach-2.ensures) c.if-not-is-numbered.ensures
+    refuses-numbers c.args.rows c.args.columns c.args.step c.args.x c.args.y c.args.first c.if-not-is_sized.ensures (simp to_z-of_z at c.if-not-is_reach.ensures) (simp to_z-of_z at c.if-not-is_reach-2.ensures) c.if-not-is_numbered.ensures
 
 pub returns : goal.returns
 returns c =
     let fx : SFits w32 c.args.x = c.ranges.x in
     let fy : SFits w32 c.args.y = c.ranges.y in
-    refuses-none c.args.rows c.args.columns c.args.step c.args.x c.args.y c.args.first c.if-not-is-sized.ensures (simp to_z-of_z at c.if-not-is-reach.ensures) (simp to_z-of_z at c.if-not-is-reach-2.ensures) c.if-not-is-numbered.ensures
+    refuses-none c.args.rows c.args.columns c.args.step c.args.x c.args.y c.args.first c.if-not-is_sized.ensures (simp to_z-of_z at c.if-not-is_reach.ensures) (simp to_z-of_z at c.if-not-is_reach-2.ensures) c.if-not-is_numbered.ensures

@@ -11,7 +11,7 @@ loop-l-preserved g c =
     let i = c.loop-l.l-index in
     let l = c.l-item in
     let far = c.distance.ensures ∙ ap to c.place.ensures in
-    c.in-ok-push.ensures.items
+    c.in_ok-push.ensures.items
     ∙ (λ j. c.loop-l.invariant j ++ record { distance = far j; number = c.number.ensures j } ∷ [])
     ∙ map_more (found to) labels i l.result c.loop-l-test.true l.is
 

@@ -6,20 +6,20 @@ use Rattle.listing.specs.Neighbours.{nearest, listing}
 use Rattle.listing.proofs.Accepting.{accepted}
 use Rattle.listing.proofs.list.nearest.nearest_of.Goals as goal
 
-pub returns-in-err-take-nearest : goal.returns-in-err-take-nearest
-returns-in-err-take-nearest g c =
+pub returns-in_err-take_nearest : goal.returns-in_err-take_nearest
+returns-in_err-take_nearest g c =
     let fx : SFits w32 c.args.x = c.ranges.x in
     let fy : SFits w32 c.args.y = c.ranges.y in
-    let told = place-told c.in-ok-from.from c.args.x c.args.y (simp to_z-of_z at c.in-ok-from.ensures) in
+    let told = place-told c.in_ok-from.from c.args.x c.args.y (simp to_z-of_z at c.in_ok-from.ensures) in
     let fine = accepted c.args.x c.args.y c.args.k told.0 (omega arith) (omega arith) in
-    let p = err_from_is_err_and c.from-residual-in-err-take-nearest.result c.from-residual-in-err-take-nearest.ensures.1 in
+    let p = err_from_is_err_and c.from_residual-in_err-take_nearest.result c.from_residual-in_err-take_nearest.ensures.1 in
     rw (p.1, p.2) (record { refusal = fine; listing = tt })
 
 pub returns : goal.returns
 returns g c =
     let fx : SFits w32 c.args.x = c.ranges.x in
     let fy : SFits w32 c.args.y = c.ranges.y in
-    let told = place-told c.in-ok-from.from c.args.x c.args.y (simp to_z-of_z at c.in-ok-from.ensures) in
+    let told = place-told c.in_ok-from.from c.args.x c.args.y (simp to_z-of_z at c.in_ok-from.ensures) in
     let fine = accepted c.args.x c.args.y c.args.k told.0 (omega arith) (omega arith) in
     let lt = g.Distance.Ranked.precedes in
     let k = c.args.k in
@@ -27,7 +27,7 @@ returns g c =
     record {
       refusal = fine;
       listing =
-          c.in-ok-take-nearest.ensures
-          ∙ ap (nearest lt k) (c.as-mut-slice.ensures.value ∙ c.in-ok-all.ensures)
+          c.in_ok-take_nearest.ensures
+          ∙ ap (nearest lt k) (c.as_mut_slice.ensures.value ∙ c.in_ok-all.ensures)
           ∙ ap (λ p. listing lt (to p) k c.args.labels.now) told.1;
     }

@@ -6,22 +6,22 @@ use Rattle.image.specs.Results.{Sized}
 use Rattle.image.specs.Held.{held, held-sized, root-made}
 use Rattle.image.proofs.store.nodes.ImageStoreNodeStore.root_box.Goals as goal
 
-pub box-of-requires : goal.box-of-requires
-box-of-requires c =
+pub box_of-requires : goal.box_of-requires
+box_of-requires c =
     let s = c.args.self.now in
     let bs = vec_items s.bytes in
-    (subst (λ l. Sized l s.nodes s.entries) (sym c.as-slice.ensures.value) (held-sized bs s.nodes s.entries s.fine s.sized.0 s.sized.1), omega (arith, s.sized.1, (held bs s.fine).passed.entries.0))
+    (subst (λ l. Sized l s.nodes s.entries) (sym c.as_slice.ensures.value) (held-sized bs s.nodes s.entries s.fine s.sized.0 s.sized.1), omega (arith, s.sized.1, (held bs s.fine).passed.entries.0))
 
 pub unreachable-requires : goal.unreachable-requires
 unreachable-requires c =
     let bs = vec_items c.args.self.now.bytes in
     let made : Err c.in-Err.field-0 ≡ Ok (table_of (image_of bs)).box =
-    c.in-Err.ensures ∙ ap (λ l. rect_from ((image_of l).west 0) ((image_of l).south 0) ((image_of l).east 0) ((image_of l).north 0)) c.as-slice.ensures.value ∙ root-made bs c.args.self.now.fine in
+    c.in-Err.ensures ∙ ap (λ l. rect_from ((image_of l).west 0) ((image_of l).south 0) ((image_of l).east 0) ((image_of l).north 0)) c.as_slice.ensures.value ∙ root-made bs c.args.self.now.fine in
     let z : ◌≡◌ {A = ℕ} 0 1 = cc in omega arith
 
 pub returns : goal.returns
 returns c =
     let bs = vec_items c.args.self.now.bytes in
     let made : Ok c.in-Ok.b ≡ Ok (table_of (image_of bs)).box =
-    c.in-Ok.ensures ∙ ap (λ l. rect_from ((image_of l).west 0) ((image_of l).south 0) ((image_of l).east 0) ((image_of l).north 0)) c.as-slice.ensures.value ∙ root-made bs c.args.self.now.fine in
+    c.in-Ok.ensures ∙ ap (λ l. rect_from ((image_of l).west 0) ((image_of l).south 0) ((image_of l).east 0) ((image_of l).north 0)) c.as_slice.ensures.value ∙ root-made bs c.args.self.now.fine in
     cc

@@ -10,11 +10,11 @@ use Rattle.image.specs.Lawfulness.{node_at-table_of}
 use Rattle.image.specs.Held.{held-sized, opens-told}
 use Rattle.image.proofs.store.nodes.ImageStoreNodeStore.slot.Goals as goal
 
-pub slot-of-requires : goal.slot-of-requires
-slot-of-requires c =
+pub slot_of-requires : goal.slot_of-requires
+slot_of-requires c =
     let s = c.args.self.now in
     let bs = vec_items s.bytes in
-    let same = sym c.as-slice.ensures.value in
+    let same = sym c.as_slice.ensures.value in
     let told = opens-told (image_of bs) c.in-Some.i s.first (ap (λ o. opens_at (image_of bs) o s.first) (sym c.in-Some.is) ∙ s.within) in
     record {
       sized = subst (λ l. Sized l s.nodes s.entries) same (held-sized bs s.nodes s.entries s.fine s.sized.0 s.sized.1);
@@ -27,5 +27,5 @@ returns-in-Some c =
     let s = c.args.self.now in
     let d = image_of (vec_items s.bytes) in
     let told = opens-told d c.in-Some.i s.first (ap (λ o. opens_at d o s.first) (sym c.in-Some.is) ∙ s.within) in
-    c.slot-of.ensures ∙ ap (λ l. get_or (node_of (image_of l) c.in-Some.i) c.args.j Empty) c.as-slice.ensures.value
+    c.slot_of.ensures ∙ ap (λ l. get_or (node_of (image_of l) c.in-Some.i) c.args.j Empty) c.as_slice.ensures.value
     ∙ ap (λ slots. get_or slots c.args.j Empty) (sym (node_at-table_of d c.in-Some.i told.0)) ∙ ap (λ o. slot_at (table_of d) o c.args.j) (sym c.in-Some.is)

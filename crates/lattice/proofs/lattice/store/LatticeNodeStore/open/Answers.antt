@@ -10,8 +10,8 @@ returns-then-i-self c =
     let does = no_node (table_of l) c.args.i l.meter l.opened (omega (arith, shows-count l)) in
     record { table = refl; frames = refl; told = does.0; opened = does.1; metered = does.2 }
 
-pub returns-then-self-ge-METER-END : goal.returns-then-self-ge-METER-END
-returns-then-self-ge-METER-END c =
+pub returns-then-self-ge-METER_END : goal.returns-then-self-ge-METER_END
+returns-then-self-ge-METER_END c =
     let l = c.args.self.now in
     let does = at-end (table_of l) c.args.i l.meter l.opened (omega (arith, shows-count l)) (omega arith) in
     record { table = refl; frames = refl; told = does.0; opened = does.1; metered = does.2 }

@@ -8,4 +8,4 @@ unfolding grid_table
 returns c =
     let l = c.args.self.now in
     let north = advanced l.y _ l.step (l.rows - 1) l.upward.0 l.upward.1 c.advance.ensures in
-    c.box-between.ensures ∙ (λ i. grid_box l.columns l.step l.x (passed l.y l.upward.0 i) (north i))
+    c.box_between.ensures ∙ (λ i. grid_box l.columns l.step l.x (passed l.y l.upward.0 i) (north i))
