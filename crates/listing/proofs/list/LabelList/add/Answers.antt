@@ -17,7 +17,7 @@ invariant_of-self c =
     let told : Ok l ≡ label_from c.args.number c.args.x c.args.y = simp to_z-of_z at c.in_ok-label.ensures in
     let absent : present l.number before ≡ false =
     ap (λ n. present n before) (label-told l c.args.number c.args.x c.args.y told) ∙ ap (present c.args.number) (sym c.as_slice.ensures.value) ∙ sym c.if-is_present.ensures in
-    (distinct-after before _ (is_ok c.push.result) l c.push.ensures.items absent c.args.self.now.once, tt)
+    record { once = distinct-after before _ (is_ok c.push.result) l c.push.ensures.items absent c.args.self.now.once }
 
 pub returns : goal.returns
 returns c =

@@ -21,7 +21,7 @@ returns g c =
     let fy : SFits w32 c.args.y = c.ranges.y in
     let told = place-told c.in_ok-from.from c.args.x c.args.y (simp to_z-of_z at c.in_ok-from.ensures) in
     let fine = accepted c.args.x c.args.y c.args.k told.0 (omega arith) (omega arith) in
-    let lt = g.Distance.Ranked.precedes in
+    let lt = g.M.Distance.Ranked.precedes in
     let k = c.args.k in
     let to = g.M.Measure.dist c.args.measure.now in
     record {

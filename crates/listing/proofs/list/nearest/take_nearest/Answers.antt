@@ -3,7 +3,7 @@ use Rattle.queue.proofs.Popping.{popped-none, popped-some}
 use Rattle.listing.specs.Neighbours.{nearer, nearest}
 use Rattle.listing.specs.Walking.{Walked, walked_none, walked_more, walked-stops, walked_all, nearest-alike}
 use Rattle.listing.proofs.list.nearest.take_nearest.Goals as goal
-use Rattle.listing.proofs.list.nearest.take_nearest.Goals.{in-Some+then-is_past, in-default}
+use Rattle.listing.proofs.list.nearest.take_nearest.Goals.{in-Some+then-is_past, in_default}
 
 pub loop-x-init : goal.loop-x-init
 loop-x-init g c =
@@ -36,6 +36,6 @@ returns g c =
           let x = v.in-Some.x in
           let near : nearer g.D.Ranked.precedes (get_or got (k - 1) x) x ≡ true = ap (λ ns. nearer g.D.Ranked.precedes (get_or ns (k - 1) x) x) (sym v.as_slice.ensures.value) ∙ sym v.if-is_past.ensures in
           walked-stops o k heap got l.items c.pop.new.items l.len v.in-Some.rest x l.invariant (v.in-Some.ensures.queue.0 l.invariant.shape).0 c.requires near
-      | in-default v ↦ walked_all o k heap got l.items l.len l.invariant (popped-none l.items l.len v.in-default.ensures.told l.invariant.within)
+      | in_default v ↦ walked_all o k heap got l.items l.len l.invariant (popped-none l.items l.len v.in_default.ensures.told l.invariant.within)
     ] in
     all-got ∙ nearest-alike o k heap c.args.items.now c.heapify.ensures.contents
