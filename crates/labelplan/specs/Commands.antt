@@ -1,6 +1,6 @@
 -- The commands that the words of a line give.
 use Rattle.std.specs.Prelude.{◌≡◌, ℕ, List, [], ◌∷◌, map, length, drop, ℤ, pos, Some, None, codes, Option, slice_index_or}
-use Rattle.std.specs.Borrow.{Bor, MutBor}
+use Rattle.std.specs.Borrow.{Bor}
 use Rattle.std.specs.Int.{saturate_to_bits}
 use Rattle.std.specs.Str.Parse.{IsNumeral, without_leading_sign}
 use Rattle.std.specs.List.{AllByRecursion as All}
@@ -39,12 +39,12 @@ abbrev pub places_of : List ℤ → Command
 places_of ns = Limit (count ns 0)
 
 -- the first word
-abbrev pub name_of : List (MutBor (List ℕ)) → List ℕ
+abbrev pub name_of : List (Bor (List ℕ)) → List ℕ
 name_of [] = []
 name_of (w ∷ ws) = w.now
 
 -- the words are `numbers` and a whole number
-abbrev pub Places : List (MutBor (List ℕ)) → Type 0
+abbrev pub Places : List (Bor (List ℕ)) → Type 0
 Places ws = (name_of ws ≡ codes "numbers") × Wholes 1 (drop 1 ws)
 
 abbrev pub limit_of : List (Bor (List ℕ)) → Command
@@ -57,7 +57,7 @@ image_of (w ∷ []) = Some (Image w)
 image_of (w ∷ v ∷ ws) = None
 
 -- the words give the command: the first is its name, and the others say the rest
-abbrev pub Given : List (MutBor (List ℕ)) → Command → Type 0
+abbrev pub Given : List (Bor (List ℕ)) → Command → Type 0
 Given ws (Label n x y) = (name_of ws ≡ codes "label") × Wholes 3 (drop 1 ws) × (Label n x y ≡ label_of (numbers_of (drop 1 ws)))
 Given ws (Plain x y k) = (name_of ws ≡ codes "plain") × Wholes 3 (drop 1 ws) × (Plain x y k ≡ plain_of (numbers_of (drop 1 ws)))
 Given ws (Grid r c s x y n) = (name_of ws ≡ codes "lattice") × Wholes 6 (drop 1 ws) × (Grid r c s x y n ≡ grid_of (numbers_of (drop 1 ws)))

@@ -79,7 +79,7 @@ fn by_number(heap: Global, labels: &[Label]) -> Result<Vec<Listed>, AllocError> 
             y: l.place().y(),
         })?;
     }
-    listed.sort();
+    listed.sort_unstable();
     Ok(listed)
 }
 

@@ -1,6 +1,6 @@
 -- What a slice pattern reads: the first word, and what it leaves behind its first item. What a loop that writes item after
 -- item has written.
-use Rattle.std.proofs.Common.{◌≡◌, ℕ, ◌+◌, ◌-◌, ◌<◌, List, [], ◌∷◌, ◌++◌, length, get_or, take, drop, sym, refl, ap, ◌∙◌, arith, length-drop, MutBor}
+use Rattle.std.proofs.Common.{◌≡◌, ℕ, ◌+◌, ◌-◌, ◌<◌, List, [], ◌∷◌, ◌++◌, length, get_or, take, drop, sym, refl, ap, ◌∙◌, arith, length-drop, Bor}
 use Rattle.std.specs.List.{flat_map}
 use Rattle.std.proofs.lemmas.List.{take_all, take_more, flat_map_more}
 use Rattle.script.specs.Commands.{name_of}
@@ -9,7 +9,7 @@ pub behind : {X : Type 0} (xs ys : List X) → xs ≡ ys → take (length xs - 1
 behind xs ys e = take_all (length xs - 1) (drop 1 xs) (simp length-drop (omega arith)) ∙ ap (drop 1) e
 
 -- the first word, as the code reads it
-pub named : (ws : List (MutBor (List ℕ))) (d : MutBor (List ℕ)) → d.now ≡ [] → name_of ws ≡ (get_or ws 0 d).now
+pub named : (ws : List (Bor (List ℕ))) (d : Bor (List ℕ)) → d.now ≡ [] → name_of ws ≡ (get_or ws 0 d).now
 named [] d e = sym e
 named (w ∷ ws) d e = refl
 

@@ -1,6 +1,6 @@
 -- The commands that the words of a line give.
 use Rattle.std.specs.Prelude.{◌≡◌, ℕ, List, [], ◌∷◌, map, length, take, drop, ℤ, pos, Some, None, codes, Option, Result, MatchResult, slice_index_or}
-use Rattle.std.specs.Borrow.{Bor, MutBor}
+use Rattle.std.specs.Borrow.{Bor}
 use Rattle.std.specs.Int.{saturate_to_bits}
 use Rattle.std.specs.Str.Parse.{IsNumeral, without_leading_sign}
 use Rattle.std.specs.List.{AllByRecursion as All}
@@ -74,7 +74,7 @@ abbrev pub mutual_of : List (Bor (List ℕ)) → Command
 mutual_of ws = Mutual (coordinate (numbers_of (take 4 ws)) 0) (coordinate (numbers_of (take 4 ws)) 1) (count (numbers_of (take 4 ws)) 2) (count (numbers_of (take 4 ws)) 3) (own_of (drop 4 ws))
 
 -- the first word
-abbrev pub name_of : List (MutBor (List ℕ)) → List ℕ
+abbrev pub name_of : List (Bor (List ℕ)) → List ℕ
 name_of [] = []
 name_of (w ∷ ws) = w.now
 
@@ -91,11 +91,11 @@ list_word Answers = codes "answers"
 list_word Work = codes "work"
 
 -- the one word is the name of the measure that is set
-abbrev pub Measured : List (MutBor (List ℕ)) → Command → Type 0
+abbrev pub Measured : List (Bor (List ℕ)) → Command → Type 0
 Measured ws c = (k : MeasureKind) × (length ws ≡ 1) × (name_of ws ≡ kind_word k) × (c ≡ Measure k)
 
 -- the words are the name of the list that is limited, and a whole number
-abbrev pub Limited : List (MutBor (List ℕ)) → Command → Type 0
+abbrev pub Limited : List (Bor (List ℕ)) → Command → Type 0
 Limited ws c = (l : WorkList) × (name_of ws ≡ list_word l) × Wholes 1 (drop 1 ws) × (c ≡ Limit l (count (numbers_of (drop 1 ws)) 0))
 
 -- the one word is a path
@@ -135,7 +135,7 @@ Behind ws (Measure k) = Measured ws (Measure k)
 Behind ws (Limit l n) = Limited ws (Limit l n)
 
 -- the words give the command: the first is its name, and the others say the rest
-abbrev pub Given : List (MutBor (List ℕ)) → Command → Type 0
+abbrev pub Given : List (Bor (List ℕ)) → Command → Type 0
 Given ws c = (name_of ws ≡ word_of c) × Behind (drop 1 ws) c
 
 -- the command that the words give, and an error where they give none

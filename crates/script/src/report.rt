@@ -69,7 +69,7 @@ fn by_number(heap: Global, labels: &[Label]) -> Result<Vec<(u32, i32, i32)>, All
     for l in labels {
         listed.push((l.number(), l.place().x(), l.place().y()))?;
     }
-    listed.sort();
+    listed.sort_unstable();
     Ok(listed)
 }
 

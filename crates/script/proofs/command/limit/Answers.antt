@@ -1,4 +1,4 @@
-use Rattle.std.proofs.Common.{◌≡◌, ℕ, ◌-◌, List, length, take, drop, refl, ap, ◌∙◌, MutBor, rules}
+use Rattle.std.proofs.Common.{◌≡◌, ℕ, ◌-◌, List, length, take, drop, refl, ap, ◌∙◌, rules}
 use Rattle.script.specs.declared.command.Command.TheVariants.{Limit}
 use Rattle.script.specs.declared.command.WorkList.{WorkList}
 use Rattle.script.specs.Commands.{Wholes, Limited, name_of, list_word, numbers_of, count}
@@ -6,7 +6,7 @@ use Rattle.script.proofs.Lists.{behind, named}
 use Rattle.script.proofs.command.limit.Goals as goal
 
 -- what the words behind a list's name give, the words give
-under : (l : WorkList) (n : ℕ) (ws ds : List (MutBor (List ℕ))) → ds ≡ drop 1 ws → name_of ws ≡ list_word l → Wholes 1 ds → n ≡ count (numbers_of ds) 0 → Limited ws (Limit l n)
+under : (l : WorkList) (n : ℕ) (ws ds : List (Bor (List ℕ))) → ds ≡ drop 1 ws → name_of ws ≡ list_word l → Wholes 1 ds → n ≡ count (numbers_of ds) 0 → Limited ws (Limit l n)
 under l n ws ds q w k e = (l, w, rw q at k, ap (Limit l) (rw q at e))
 
 pub returns-in-ok-places : goal.returns-in-ok-places

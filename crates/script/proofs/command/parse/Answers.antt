@@ -1,4 +1,4 @@
-use Rattle.std.proofs.Common.{◌≡◌, ℕ, cond, List, [], ◌∷◌, length, drop, Some, None, codes, Option, Result, sym, refl, ◌∙◌, arith, Bor, MutBor, rules}
+use Rattle.std.proofs.Common.{◌≡◌, ℕ, cond, List, [], ◌∷◌, length, drop, Some, None, codes, Option, Result, sym, refl, ◌∙◌, arith, Bor, rules}
 use Rattle.std.specs.Option.{SomeIff, ok_or}
 use Rattle.std.specs.Str.{bytes_eq}
 use Rattle.script.specs.declared.command.Command.{Command}
@@ -37,7 +37,7 @@ sub ds (Measure k) h = h
 sub ds (Limit l n) h = h
 
 -- what the words behind the name give, the line's words give
-parsed : {E : Type 0} (w : List ℕ) (ws : List (MutBor (List ℕ))) (o : Option Command) (e : E) (r : Result Command E) → r ≡ ok_or o e → name_of ws ≡ w → Told (Sub w (drop 1 ws)) o → ((c : Command) → Sub w (drop 1 ws) c → (w ≡ word_of c) × Behind (drop 1 ws) c) → Parsed ws r
+parsed : {E : Type 0} (w : List ℕ) (ws : List (Bor (List ℕ))) (o : Option Command) (e : E) (r : Result Command E) → r ≡ ok_or o e → name_of ws ≡ w → Told (Sub w (drop 1 ws)) o → ((c : Command) → Sub w (drop 1 ws) c → (w ≡ word_of c) × Behind (drop 1 ws) c) → Parsed ws r
 parsed w ws None e r p n k f = rw p (λ c g. k c (rw (sym n ∙ g.0) (sub (drop 1 ws) c g.1)))
 parsed w ws (Some c) e r p n k f = rw p (n ∙ (f c k).0, (f c k).1)
 
@@ -113,7 +113,7 @@ returns-in-limit c =
 abbrev Unknown : List ℕ → Type 0
 Unknown w = (w ≡ codes "label" → ⊥) × (w ≡ codes "plain" → ⊥) × (w ≡ codes "lattice" → ⊥) × (w ≡ codes "image" → ⊥) × (w ≡ codes "labels" → ⊥) × (w ≡ codes "nodes" → ⊥) × (w ≡ codes "nearest" → ⊥) × (w ≡ codes "mutual" → ⊥) × (w ≡ codes "linked" → ⊥) × (w ≡ codes "links" → ⊥) × (w ≡ codes "measure" → ⊥) × (w ≡ codes "limit" → ⊥)
 
-unknown : (ws : List (MutBor (List ℕ))) → Unknown (name_of ws) → (c : Command) → Given ws c → ⊥
+unknown : (ws : List (Bor (List ℕ))) → Unknown (name_of ws) → (c : Command) → Given ws c → ⊥
 unknown ws u (Label n x y) g = u.0 g.0
 unknown ws u (Plain x y k) g = u.1 g.0
 unknown ws u (Grid r c s x y n) g = u.2 g.0
