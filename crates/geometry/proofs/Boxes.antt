@@ -1,6 +1,5 @@
 -- Values by their numbers, and the smallest box around two.
-use Rattle.std.proofs.Common.{◌≡◌, ℕ, ◌≤◌, Bool, true, false, cond, ◌&&◌, ℤ, nat_abs, ◌≤ℤ◌, Ok, sym, refl, ap, ◌∙◌, ⊎_elim, arith}
-use lib.Signed.{le_z}
+use Rattle.std.proofs.Common.{◌≡◌, ℕ, ◌≤◌, Bool, true, false, ◌&&◌, ℤ, nat_abs, ◌≤ℤ◌, Ok, sym, refl, ap, ◌∙◌, ⊎_elim, arith}
 use Rattle.std.specs.Int.{int_min, int_max}
 use Rattle.std.proofs.lemmas.Int.{ints, clamps}
 use Rattle.std.proofs.lemmas.Bool.{both_ways, cases_Bool, cond-true, cond-false}
@@ -8,7 +7,7 @@ use Rattle.std.proofs.lemmas.Bool.Decides.{nat_tests}
 use Rattle.geometry.specs.declared.place.Place.{Place}
 use Rattle.geometry.specs.declared.label.Label.{Label}
 use Rattle.geometry.specs.declared.rect.Rect.{Rect}
-use Rattle.geometry.specs.Plane.{in_range, numbered, on_map, place_from, label_from, rect_from, place_at, label_at, rect_at, span, spanning, covering, Smallest}
+use Rattle.geometry.specs.Plane.{in_range, numbered, on_map, place_from, label_from, rect_from, place_at, label_at, rect_at, span, spanning, Smallest}
 use Rattle.geometry.proofs.Same.{same_place, same-label, same-rect}
 
 pub and_both : (a b : Bool) → (a && b) ≡ true → (a ≡ true) × (b ≡ true)

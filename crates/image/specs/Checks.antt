@@ -1,5 +1,5 @@
 -- The checks of an image, in their order, and the verdict.
-use Rattle.std.specs.Prelude.{ℕ, zero, suc, ◌-◌, Bool, true, false, cond, not, ◌&&◌, ltb, List, [], ◌∷◌, length, is_some, Some, None, Option, ◌==◌, int_le, nat_le, nat_lt}
+use Rattle.std.specs.Prelude.{ℕ, zero, suc, Bool, true, cond, not, ◌&&◌, ltb, List, [], ◌∷◌, length, is_some, Some, None, Option, ◌==◌, int_le, nat_le, nat_lt}
 use Rattle.std.specs.Option.{option_map}
 use Rattle.queue.specs.Order.{sorted}
 use Rattle.geometry.specs.declared.refusal.Refusal.{Refusal}

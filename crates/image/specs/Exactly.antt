@@ -1,5 +1,5 @@
 -- The checks pass exactly where the image obeys the layout and the tree rules.
-use Rattle.std.specs.Prelude.{◌≡◌, ℕ, zero, suc, ◌+◌, ◌-◌, ◌<◌, ◌≤◌, Bool, true, false, cond, not, ◌&&◌, leb, ◌⊎◌, List, [], ◌∷◌, ◌++◌, map, length, ℤ, is_some, Some, None, filter, Option, ◌==◌, int_le, nat_eq, nat_le}
+use Rattle.std.specs.Prelude.{◌≡◌, ℕ, zero, suc, ◌+◌, ◌-◌, ◌<◌, ◌≤◌, Bool, true, false, not, ◌&&◌, leb, List, [], ◌∷◌, length, ℤ, is_some, Some, None, filter, Option, ◌==◌, int_le, nat_eq, nat_le}
 use Rattle.std.proofs.Math.Path.{refl, ap, subst}
 use Rattle.std.proofs.Common.{sym, ◌∙◌, ⊎_elim, arith}
 use Rattle.std.specs.List.{range_with_len, flat_map, AllByRecursion as All}
@@ -12,21 +12,21 @@ use Rattle.geometry.specs.declared.refusal.Refusal.{Refusal}
 use Rattle.geometry.specs.declared.refusal.Reason.{Reason}
 use Rattle.geometry.specs.declared.refusal.Reason.TheVariants.{BadSize, BadBox, BadTarget, OutsideBox, BadNumber}
 use Rattle.geometry.specs.Refusals.{refusal}
-use Rattle.geometry.specs.Plane.{numbered, span, spanning, covering, holds}
+use Rattle.geometry.specs.Plane.{span, spanning}
 use Rattle.geometry.proofs.Boxes.{and_both, and-made, spanned, rect-at, label-at}
 use Rattle.index.specs.declared.slot.Slot.TheVariants.{Holds, Leads}
-use Rattle.index.specs.Table.{node_count, node_at, branch_in, branches_in, branches, boxed, plan}
-use Rattle.index.specs.Laws.{Lawful, lies_in, times_led_to}
+use Rattle.index.specs.Table.{node_count, node_at, branch_in, branches_in, branches, plan}
+use Rattle.index.specs.Laws.{lies_in}
 use Rattle.image.specs.Layout.{Image, image_length, image_of}
 use Rattle.image.specs.Nodes.{is_leaf, start, owner, is_leaf_entry, is_branch, box_of, label_of, slot_of, node_of, table_of, leader_below, leader, label_numbers}
-use Rattle.image.specs.Checks.{first_bad, unless, at_first, sizes_fine, node_fine, box_fine, target_fine, target_reason, led_to, inside_fine, smallest_repeated, first_of, checks, verdict}
+use Rattle.image.specs.Checks.{unless, at_first, sizes_fine, node_fine, box_fine, target_fine, target_reason, led_to, inside_fine, first_of, checks, verdict}
 use Rattle.image.specs.Obeys.{Layout, Tree, Obeys}
 use Rattle.image.specs.Firsts.{none-bad, all-good}
-use Rattle.image.specs.Owners.{owner-in, start-more, start-some}
+use Rattle.image.specs.Owners.{owner-in, start-more}
 use Rattle.image.specs.Ranges.{joined-all}
 use Rattle.image.specs.Tables.{node-gives, table-gives}
 use Rattle.image.specs.Repeats.{occurs, once-distinct, no-repeats}
-use Rattle.image.specs.Passing.{Passed, Branch, branch-of, number_of, spans-of, place_of, leaf-entry, leaf-told, branch-entry, branch-told, branch-parts, branch-whole}
+use Rattle.image.specs.Passing.{Passed, Branch, branch-of, number_of, spans-of, place_of, leaf-entry, branch-entry, branch-told, branch-whole}
 use Rattle.image.specs.Leaders.{hits, hits-leader, leader-hits, hits-grow, hits-here, branch-gives, leader-is, no-leader}
 use Rattle.image.specs.Numbering.{plan-numbers}
 use Rattle.image.specs.Lawfulness.{node-count, node_at-table_of, node-pick, lawful-table}

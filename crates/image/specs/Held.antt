@@ -1,18 +1,15 @@
 -- What an accepted image gives to the store that holds it.
-use Rattle.std.specs.Prelude.{◌≡◌, ℕ, suc, ◌+◌, ◌<◌, ◌≤◌, Bool, true, false, cond, ◌&&◌, ◌⊎◌, List, [], ◌∷◌, map, length, is_some, Some, None, Ok, Option, ◌==◌, ◌≢◌, nat_lt, slice_index_or, refl}
-use Rattle.std.proofs.Common.{sym, ap, subst, ◌∙◌, arith}
+use Rattle.std.specs.Prelude.{◌≡◌, ℕ, suc, ◌+◌, ◌<◌, ◌≤◌, true, false, cond, ◌&&◌, List, map, length, is_some, Some, None, Ok, Option, ◌==◌, ◌≢◌, nat_lt, slice_index_or, refl}
+use Rattle.std.proofs.Common.{sym, ap, ◌∙◌, arith}
 use Rattle.std.proofs.Math.Logic.{⊎_elim}
 use Rattle.std.specs.List.{range_with_len}
-use Rattle.std.proofs.lemmas.List.FromFn.{get_or-map-range_with_len, length-map-range_with_len}
+use Rattle.std.proofs.lemmas.List.FromFn.{get_or-map-range_with_len}
 use Rattle.std.proofs.lemmas.List.{get_or_past}
 use Rattle.std.proofs.lemmas.Bool.{cases_lt, cond-true, cond-false, both_ways}
 use Rattle.std.proofs.lemmas.Bool.Decides.{nat_tests}
-use Rattle.geometry.specs.declared.refusal.Refusal.{Refusal}
 use Rattle.geometry.specs.Plane.{in_range, numbered, span, label_from, rect_from}
 use Rattle.geometry.proofs.Boxes.{and_both, and-made, spanned, in-range}
-use Rattle.index.specs.declared.slot.Slot.{Slot}
 use Rattle.index.specs.declared.slot.Slot.TheVariants.{Empty, Holds, Leads}
-use Rattle.index.specs.Table.{node_count}
 use Rattle.index.specs.Laws.{Lawful, Inside}
 use Rattle.image.specs.Layout.{Image, image_of}
 use Rattle.image.specs.Nodes.{is_leaf, start, owner, is_leaf_entry, box_of, label_of, slot_of, node_of, table_of}

@@ -1,5 +1,5 @@
 -- An image that passes its checks describes a lawful table.
-use Rattle.std.specs.Prelude.{◌≡◌, ℕ, zero, suc, ◌+◌, ◌-◌, ◌<◌, ◌≤◌, Bool, true, false, cond, not, ◌&&◌, ◌||◌, ◌⊎◌, List, [], ◌∷◌, ◌++◌, map, length, ℤ, filter, ◌==◌, nat_eq, nat_lt}
+use Rattle.std.specs.Prelude.{◌≡◌, ℕ, zero, suc, ◌+◌, ◌-◌, ◌<◌, ◌≤◌, Bool, true, false, cond, not, ◌||◌, List, [], ◌++◌, map, length, filter, ◌==◌, nat_eq, nat_lt}
 use Rattle.std.proofs.Math.Path.{refl, ap, subst}
 use Rattle.std.proofs.Common.{sym, ◌∙◌}
 use Rattle.std.proofs.Math.Logic.{⊎_elim}
@@ -7,26 +7,25 @@ use native.Mathlib.Omega.{arith}
 use Rattle.std.specs.List.{range_with_len, flat_map, AllByRecursion as All}
 use Rattle.std.proofs.ByRecursion.{All-get_or}
 use Rattle.std.proofs.lemmas.List.FromFn.{length-map-range_with_len, get_or-map-range_with_len}
-use Rattle.std.proofs.lemmas.Bool.{cases_Bool, cases_eq, cases_lt, cond-true, cond-false, both_ways}
+use Rattle.std.proofs.lemmas.Bool.{cases_Bool, cases_lt, cond-true, cond-false, both_ways}
 use Rattle.std.proofs.lemmas.Bool.Decides.{nat_tests}
 use Rattle.geometry.specs.declared.rect.Rect.{Rect}
-use Rattle.geometry.specs.Plane.{holds, covering, spanning}
+use Rattle.geometry.specs.Plane.{spanning}
 use Rattle.geometry.proofs.Boxes.{and_both, and-made, spanned, rect-at, label-at}
 use Rattle.index.specs.declared.slot.Slot.{Slot}
 use Rattle.index.specs.declared.slot.Slot.TheVariants.{Empty, Holds, Leads}
-use Rattle.index.specs.Table.{Table, node_count, node_at, label_in, branch_in, labels_in, branches_in, plan, branches, boxed}
+use Rattle.index.specs.Table.{node_count, node_at, label_in, branch_in, labels_in, branches_in, plan, branches, boxed}
 use Rattle.index.specs.Laws.{Lawful, lies_in, is_inner, times_led_to}
 use Rattle.index.specs.Laws as laws
 use Rattle.image.specs.Layout.{Image}
 use Rattle.image.specs.Nodes.{is_leaf, start, owner, is_leaf_entry, is_branch, box_of, label_of, slot_of, node_of, table_of, leader_below, leader, label_numbers}
-use Rattle.image.specs.Checks.{inside_fine}
-use Rattle.image.specs.Owners.{start-zero, start-more, start-some, start-rises, owner-is}
-use Rattle.image.specs.Ranges.{joined_same, all-joined}
+use Rattle.image.specs.Owners.{start-more, start-some, start-rises, owner-is}
+use Rattle.image.specs.Ranges.{all-joined}
 use Rattle.image.specs.Tables.{node-gives, table-gives}
-use Rattle.image.specs.Passing.{Passed, Branch, owned, branch-of, number_of, spans-of, place_of, leaf-entry, branch-entry, no-branch, branch-told}
+use Rattle.image.specs.Passing.{Passed, branch-of, number_of, spans-of, place_of, leaf-entry, branch-entry, branch-told}
 use Rattle.image.specs.Repeats.{occurs, once-each, distinct-once}
 use Rattle.image.specs.Numbering.{plan-numbers}
-use Rattle.image.specs.Leaders.{hits, hits-once, branch-gives, leader-here, leader-stays, no-leader}
+use Rattle.image.specs.Leaders.{hits-once, branch-gives, leader-here, leader-stays, no-leader}
 
 all-counting : {X : Type 0} (P : X → Type 0) (f : ℕ → X) (a n : ℕ) → ((j : ℕ) → a ≤ j → j < a + n → P (f j)) → All P (map f (range_with_len a n))
 all-counting P f a zero h = tt

@@ -1,5 +1,5 @@
 -- Which entry leads to a node.
-use Rattle.std.specs.Prelude.{◌≡◌, ℕ, zero, suc, ◌+◌, ◌-◌, ◌<◌, ◌≤◌, Bool, true, false, cond, not, ◌&&◌, ◌⊎◌, List, [], ◌∷◌, ◌++◌, map, length, filter, ◌==◌, ◌≢◌, nat_eq}
+use Rattle.std.specs.Prelude.{◌≡◌, ℕ, zero, suc, ◌+◌, ◌<◌, ◌≤◌, Bool, true, false, cond, ◌&&◌, List, [], ◌∷◌, ◌++◌, length, filter, ◌==◌, ◌≢◌, nat_eq}
 use Rattle.std.proofs.Math.Path.{refl, ap, subst}
 use Rattle.std.proofs.Common.{sym, ◌∙◌, length-append}
 use Rattle.std.proofs.Math.Logic.{⊎_elim}
@@ -7,7 +7,7 @@ use native.Mathlib.Omega.{arith}
 use Rattle.std.specs.List.{range_with_len, flat_map}
 use Rattle.std.proofs.lemmas.List.Elements.{filter-append}
 use Rattle.std.proofs.lemmas.List.{append-nil}
-use Rattle.std.proofs.lemmas.Bool.{cases_Bool, cases_eq, cond-true, cond-false, both_ways}
+use Rattle.std.proofs.lemmas.Bool.{cases_Bool, cases_eq, cond-true, cond-false}
 use Rattle.std.proofs.lemmas.Bool.Decides.{nat_tests}
 use Rattle.queue.proofs.Keeping.{keeps, leaves}
 use Rattle.geometry.specs.declared.rect.Rect.{Rect}
@@ -15,7 +15,7 @@ use Rattle.geometry.proofs.Boxes.{and_both, and-made}
 use Rattle.index.specs.Table.{branch_in}
 use Rattle.image.specs.Layout.{Image}
 use Rattle.image.specs.Nodes.{is_leaf, owner, is_branch, box_of, slot_of, leader_below}
-use Rattle.image.specs.Passing.{branch-entry, no-branch, branch-told}
+use Rattle.image.specs.Passing.{branch-entry, branch-told}
 use Rattle.image.specs.Ranges.{counting-append, joined-append}
 
 module _ (d : Image) where

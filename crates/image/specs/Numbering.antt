@@ -1,13 +1,11 @@
 -- The numbers of a table's labels are those that the image's leaf entries have.
-use Rattle.std.specs.Prelude.{◌≡◌, ℕ, zero, suc, ◌+◌, ◌-◌, ◌<◌, ◌≤◌, Bool, true, false, cond, ◌&&◌, leb, ◌⊎◌, List, [], ◌∷◌, ◌++◌, map, filter}
+use Rattle.std.specs.Prelude.{◌≡◌, ℕ, zero, suc, ◌+◌, ◌-◌, ◌<◌, ◌≤◌, true, false, ◌∷◌, ◌++◌, map, filter}
 use Rattle.std.proofs.Math.Path.{refl, ap}
-use Rattle.std.proofs.Common.{sym, subst, ◌∙◌, ⊎_elim}
+use Rattle.std.proofs.Common.{sym, ◌∙◌, ⊎_elim}
 use native.Mathlib.Omega.{arith}
 use Rattle.std.specs.List.{range_with_len, flat_map}
 use Rattle.std.proofs.lemmas.Bool.{cases_Bool, cond-true, cond-false, both_ways}
 use Rattle.queue.proofs.Keeping.{keeps, leaves}
-use Rattle.geometry.specs.Plane.{numbered}
-use Rattle.geometry.proofs.Boxes.{spanned, label-at, and_both}
 use Rattle.index.specs.declared.slot.Slot.TheVariants.{Holds, Leads}
 use Rattle.index.specs.Table.{label_in, labels_in, plan}
 use Rattle.image.specs.Layout.{Image}

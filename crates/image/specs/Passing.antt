@@ -1,13 +1,13 @@
 -- What an image that passes its checks tells of its entries.
-use Rattle.std.specs.Prelude.{◌≡◌, ℕ, zero, suc, ◌+◌, ◌-◌, ◌<◌, ◌≤◌, Bool, true, false, cond, not, ◌&&◌, ◌⊎◌, ℤ, ◌≤ℤ◌, None, int_le, nat_le, refl}
-use Rattle.std.proofs.Common.{sym, ap, subst, ◌∙◌, ⊎_elim, arith}
+use Rattle.std.specs.Prelude.{◌≡◌, ℕ, zero, suc, ◌<◌, ◌≤◌, true, false, not, ◌&&◌, ℤ, ◌≤ℤ◌, None, int_le, nat_le}
+use Rattle.std.proofs.Common.{sym, ap, ◌∙◌, ⊎_elim, arith}
 use Rattle.std.proofs.lemmas.Int.{ints}
-use Rattle.std.proofs.lemmas.Bool.{cases_Bool, cases_eq, cases_lt, cond-true, cond-false, both_ways}
+use Rattle.std.proofs.lemmas.Bool.{cases_Bool, cond-true, cond-false, both_ways}
 use Rattle.std.proofs.lemmas.Bool.Decides.{nat_tests}
 use Rattle.geometry.specs.Plane.{numbered, span}
 use Rattle.geometry.proofs.Boxes.{and_both, and-made, spanned}
 use Rattle.image.specs.Layout.{Image}
-use Rattle.image.specs.Nodes.{is_leaf, start, owner, is_leaf_entry, is_branch, leader_below, leader, label_numbers}
+use Rattle.image.specs.Nodes.{is_leaf, start, owner, is_leaf_entry, is_branch, leader_below, label_numbers}
 use Rattle.image.specs.Checks.{node_fine, box_fine, branch_fine, target_fine, led_to, inside_fine, smallest_repeated}
 use Rattle.image.specs.Owners.{owner-in}
 

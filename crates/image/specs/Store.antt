@@ -1,5 +1,5 @@
 -- What an image store shows, and what opening an image leaves.
-use Rattle.std.specs.Prelude.{◌≡◌, ℕ, ◌+◌, ◌<◌, ◌≤◌, List, [], ◌∷◌, replicate, pos, None, vec_items, Option, slice_index_or}
+use Rattle.std.specs.Prelude.{◌≡◌, ℕ, ◌+◌, ◌<◌, ◌≤◌, [], ◌∷◌, replicate, pos, None, vec_items, slice_index_or}
 use Rattle.geometry.specs.Plane.{rect_at}
 use Rattle.index.specs.declared.slot.Slot.TheVariants.{Empty}
 use Rattle.index.specs.Table.{Table, node_count, node_at}

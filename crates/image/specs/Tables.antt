@@ -1,17 +1,15 @@
 -- The labels and branches of the table that an image describes, entry by entry.
-use Rattle.std.specs.Prelude.{◌≡◌, ℕ, zero, suc, ◌+◌, ◌-◌, ◌<◌, ◌≤◌, Bool, true, false, cond, ◌⊎◌, List, [], ◌∷◌, ◌++◌, map, nat_lt, refl}
-use Rattle.std.proofs.Common.{sym, subst, ◌∙◌, ⊎_elim}
+use Rattle.std.specs.Prelude.{◌≡◌, ℕ, zero, suc, ◌+◌, ◌-◌, ◌<◌, ◌≤◌, Bool, true, false, cond, List, [], ◌++◌, nat_lt, refl}
+use Rattle.std.proofs.Common.{sym, ◌∙◌}
 use Rattle.std.proofs.Math.Path.{ap}
 use native.Mathlib.Omega.{arith}
-use Rattle.std.specs.List.{range_with_len, flat_map, AllByRecursion as All}
+use Rattle.std.specs.List.{range_with_len, flat_map}
 use Rattle.std.proofs.lemmas.List.{append-nil}
-use Rattle.std.proofs.lemmas.Bool.{cases_Bool}
 use Rattle.index.specs.declared.slot.Slot.{Slot}
 use Rattle.index.specs.declared.slot.Slot.TheVariants.{Empty}
-use Rattle.index.specs.Table.{label_in, labels_in, branch_in, branches_in, plan, branches}
 use Rattle.image.specs.Layout.{Image}
 use Rattle.image.specs.Nodes.{start, owner, slot_of, node_of, table_of}
-use Rattle.image.specs.Owners.{start-zero, start-more, start-some, start-rises, owner-is}
+use Rattle.image.specs.Owners.{start-zero, start-more, start-some, owner-is}
 use Rattle.image.specs.Ranges.{counting-append, joined-append, joined-map, joined_same, padded}
 
 cond-in : {X Y : Type 0} (f : X → Y) (b : Bool) (x y : X) → f (cond b x y) ≡ cond b (f x) (f y)

@@ -1,5 +1,5 @@
 -- What opening does, by its three outcomes.
-use Rattle.std.proofs.Common.{◌≡◌, ℕ, ◌+◌, ◌<◌, ◌≤◌, cond, ltb, Some, Ok, Err, Option, sym, ◌∙◌}
+use Rattle.std.proofs.Common.{◌≡◌, ℕ, ◌+◌, ◌<◌, ◌≤◌, ltb, Some, Ok, Err, Option, sym, ◌∙◌}
 use Rattle.std.proofs.lemmas.Bool.{lt-ltb, le-ltb, and_from, and_left, and_right, cond-true, cond-false}
 use Rattle.geometry.specs.declared.refusal.Reason.TheVariants.{NoSuchNode, MeterAtEnd}
 use Rattle.geometry.specs.Refusals.{refusal}

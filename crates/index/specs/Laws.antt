@@ -1,5 +1,5 @@
 -- What makes a table lawful.
-use Rattle.std.specs.Prelude.{◌≡◌, ℕ, ◌<◌, ◌≤◌, Bool, true, ◌||◌, List, [], ◌∷◌, length, Some, None, filter, Option, ◌==◌, nat_eq}
+use Rattle.std.specs.Prelude.{◌≡◌, ℕ, ◌<◌, ◌≤◌, Bool, true, ◌||◌, List, length, Some, None, filter, Option, ◌==◌, nat_eq}
 use Rattle.std.specs.List.{AllByRecursion as All}
 use Rattle.geometry.specs.declared.rect.Rect.{Rect}
 use Rattle.geometry.specs.Plane.{holds, covering}

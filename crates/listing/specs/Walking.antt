@@ -6,8 +6,7 @@ use Rattle.std.specs.List.{AllByRecursion as All}
 use Rattle.std.proofs.lemmas.Bool.{cases_Bool, cond-true, both_ways}
 use Rattle.std.proofs.lemmas.List.{append_assoc, append-nil, take_all, take_more, map-append}
 use Rattle.std.proofs.lemmas.List.Elements.{filter-append}
-use Rattle.std.proofs.lemmas.Bool.Decides.{nat_tests}
-use Rattle.queue.specs.Order.{Order, sorted, then_by}
+use Rattle.queue.specs.Order.{Order, sorted}
 use Rattle.queue.specs.Shape.{Heap}
 use Rattle.queue.specs.Numbers.{number-order}
 use Rattle.queue.proofs.Keys.{by_key, then-weak, tells-level, decided}

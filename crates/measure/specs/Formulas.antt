@@ -1,5 +1,5 @@
 -- Each formula grows with the differences.
-use Rattle.std.specs.Prelude.{◌≡◌, ℕ, ◌+◌, ◌*◌, ◌≤◌, min, max, true, false, cond, nat_lt}
+use Rattle.std.specs.Prelude.{◌≡◌, ℕ, false, nat_lt}
 use Rattle.std.proofs.Common.{mul-le-mul, arith}
 use Rattle.std.proofs.lemmas.Bool.Decides.{nat_tests}
 use Rattle.queue.specs.Order.{smaller}

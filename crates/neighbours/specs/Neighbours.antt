@@ -1,5 +1,5 @@
 -- The neighbours of a place among the labels of a plan, ties let in.
-use Rattle.std.specs.Prelude.{ℕ, Bool, false, not, ◌&&◌, ltb, List, map, length, Some, None, filter, Option, ◌==◌, nat_lt}
+use Rattle.std.specs.Prelude.{ℕ, Bool, false, not, ltb, List, map, length, Some, None, filter, Option, ◌==◌, nat_lt}
 use Rattle.queue.specs.Order.{then_by, sorted}
 use Rattle.geometry.specs.declared.place.Place.{Place}
 use Rattle.geometry.specs.declared.label.Label.{Label}

@@ -1,5 +1,5 @@
 -- The items of a search are in a strict total order.
-use Rattle.std.specs.Prelude.{◌≡◌, ℕ, Bool, true, false, int_lt, refl}
+use Rattle.std.specs.Prelude.{◌≡◌, Bool, true, false, int_lt, refl}
 use Rattle.std.proofs.Common.{ap, arith}
 use Rattle.std.proofs.lemmas.Int.{ints}
 use Rattle.std.proofs.lemmas.Bool.{true≢false, false≢true}

@@ -1,5 +1,5 @@
 -- The tree of a table as a search sees it from one place.
-use Rattle.std.specs.Prelude.{◌≡◌, ℕ, suc, ◌+◌, ◌-◌, ◌*◌, ◌<◌, ◌≤◌, Bool, true, false, cond, not, ◌&&◌, List, [], ◌∷◌, ◌++◌, map, length, take, pos, Some, None, filter, Option}
+use Rattle.std.specs.Prelude.{◌≡◌, ℕ, suc, ◌+◌, ◌-◌, ◌*◌, ◌<◌, ◌≤◌, Bool, true, cond, not, ◌&&◌, List, [], ◌∷◌, ◌++◌, map, length, take, pos, Some, None, Option}
 use Rattle.std.specs.List.{flat_map, AllByRecursion as All}
 use Rattle.geometry.specs.declared.place.Place.{Place}
 use Rattle.geometry.specs.declared.rect.Rect.{Rect}

@@ -1,5 +1,4 @@
-use Rattle.std.proofs.Common.{◌≡◌, ◌+◌, ◌-◌, ◌<◌, ◌∷◌, length, take, drop, set, sym, refl, ap, ◌∙◌, arith}
-use Rattle.queue.specs.Order.{sorted}
+use Rattle.std.proofs.Common.{◌-◌, ◌∷◌, sym, ap, ◌∙◌, arith}
 use Rattle.queue.proofs.Popping.{popped, popped-is, drop_more}
 use Rattle.queue.proofs.Sifting.{loose-agrees}
 use Rattle.queue.proofs.Sorting.{drop-swapped}

@@ -1,4 +1,4 @@
-use Rattle.std.proofs.Common.{◌≡◌, ◌+◌, ◌-◌, ◌/◌, refl, ◌∙◌, arith}
+use Rattle.std.proofs.Common.{refl, ◌∙◌, arith}
 use Rattle.queue.proofs.Sorting.{sorted-swapped, drop-swapped}
 use Rattle.queue.proofs.Sifting.{sink_begins, sink_steps, sink_rests, sink_ends}
 use Rattle.queue.proofs.sift_down.Goals as goal

@@ -1,4 +1,4 @@
-use Rattle.std.proofs.Common.{◌≡◌, ◌+◌, ◌-◌, ◌/◌, refl, ◌∙◌, arith}
+use Rattle.std.proofs.Common.{◌+◌, ◌-◌, ◌/◌, refl, ◌∙◌, arith}
 use Rattle.queue.proofs.Sorting.{sorted-swapped, drop-swapped}
 use Rattle.queue.proofs.Sifting.{rise_begins, rise_steps, rise_rests, rise_tops}
 use Rattle.queue.proofs.sift_up.Goals as goal

@@ -1,4 +1,4 @@
-use Rattle.std.proofs.Common.{◌≡◌, arith}
+use Rattle.std.proofs.Common.{arith}
 use Rattle.std.proofs.lemmas.Int.{ints, clamps}
 use Rattle.geometry.proofs.Boxes.{rect-is, smallest}
 use Rattle.geometry.proofs.rect.Rect.around.Goals as goal

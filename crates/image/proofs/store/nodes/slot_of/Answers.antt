@@ -1,7 +1,6 @@
-use Rattle.std.proofs.Common.{◌≡◌, ◌+◌, ◌<◌, sym, ap, ◌∙◌, subst, arith, rules}
+use Rattle.std.proofs.Common.{◌+◌, ◌<◌, sym, ap, ◌∙◌, arith, rules}
 use Rattle.geometry.specs.Plane.{label_from, rect_from}
 use Rattle.image.specs.Layout.{image_of}
-use Rattle.image.specs.Nodes.{start}
 use Rattle.image.specs.Opened.{label_slot, branch_slot}
 use Rattle.image.specs.Held.{held, slot-past, entry_in, leaf-slot, inner-slot}
 use Rattle.image.proofs.store.nodes.slot_of.Goals as goal

@@ -1,9 +1,7 @@
-use Rattle.std.proofs.Common.{◌≡◌, true, false, cond, List, [], ◌∷◌, ◌++◌, is_ok, Ok, vec_items, sym, ap, ◌∙◌, subst, w32, SFits}
+use Rattle.std.proofs.Common.{◌≡◌, false, is_ok, Ok, vec_items, sym, ap, ◌∙◌, w32, SFits}
 use Rattle.std.proofs.lemmas.Int.{to_z-of_z}
-use Rattle.geometry.specs.declared.label.Label.{Label}
 use Rattle.geometry.specs.Plane.{label_from}
 use Rattle.geometry.specs.Numbers.{present}
-use Rattle.listing.specs.Lists.{labels_of}
 use Rattle.listing.proofs.Adding.{adding-fits, distinct-after}
 use Rattle.geometry.proofs.Boxes.{label-told}
 use Rattle.listing.proofs.list.LabelList.add.Goals as goal

@@ -1,4 +1,4 @@
-use Rattle.std.proofs.Common.{◌≡◌, ◌-◌, ◌≤◌, true, false, length, get_or, vec_items, sym, ap, ◌∙◌, subst, arith}
+use Rattle.std.proofs.Common.{◌≡◌, ◌-◌, true, false, length, get_or, vec_items, sym, ap, ◌∙◌, subst, arith}
 use Rattle.queue.proofs.Popping.{popped-none, popped-some}
 use Rattle.listing.specs.Neighbours.{nearer, nearest}
 use Rattle.listing.specs.Walking.{Walked, walked_none, walked_more, walked-stops, walked_all, nearest-alike}

@@ -1,5 +1,4 @@
-use Rattle.std.proofs.Common.{◌≡◌, ◌<◌, vec_items, sym, refl, ap, ◌∙◌, subst, arith}
-use Rattle.index.specs.Table.{node_count}
+use Rattle.std.proofs.Common.{◌≡◌, vec_items, sym, refl, ap, ◌∙◌, subst, arith}
 use Rattle.index.proofs.Opened.{no_node, at-end, opens-node}
 use Rattle.image.specs.Layout.{image_of}
 use Rattle.image.specs.Nodes.{start, table_of}

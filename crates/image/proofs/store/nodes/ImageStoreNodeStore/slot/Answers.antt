@@ -1,4 +1,4 @@
-use Rattle.std.proofs.Common.{◌≡◌, true, false, get_or, is_some, Some, vec_items, sym, ap, ◌∙◌, subst, arith}
+use Rattle.std.proofs.Common.{◌≡◌, false, get_or, is_some, vec_items, sym, ap, ◌∙◌, subst, arith}
 use Rattle.index.specs.declared.slot.Slot.TheVariants.{Empty}
 use Rattle.index.specs.Table.{slot_at}
 use Rattle.image.specs.Layout.{image_of}
