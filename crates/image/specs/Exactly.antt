@@ -2,7 +2,7 @@
 use Rattle.std.specs.Prelude.{◌≡◌, ℕ, zero, suc, ◌+◌, ◌-◌, ◌<◌, ◌≤◌, Bool, true, false, not, ◌&&◌, leb, List, [], ◌∷◌, length, ℤ, is_some, Some, None, filter, Option, ◌==◌, int_le, nat_eq, nat_le}
 use Rattle.std.proofs.Math.Path.{refl, ap, subst}
 use Rattle.std.proofs.Common.{sym, ◌∙◌, ⊎_elim, arith}
-use Rattle.std.specs.List.{range_with_len, flat_map, AllByRecursion as All}
+use Rattle.std.specs.List.{range_with_len, flat_map, AllByRecursion}
 use Rattle.std.specs.Option.{option_map}
 use Rattle.std.proofs.lemmas.Int.{ints}
 use Rattle.std.proofs.lemmas.Bool.{cases_Bool, cases_eq, cond-true, cond-false, both_ways}
@@ -44,7 +44,7 @@ head-none : (o : Option Refusal) (rest : List (Option Refusal)) → first_of (o 
 head-none None rest h = (refl, h)
 head-none (Some r) rest h = let z : ◌≡◌ {A = ℕ} 0 1 = cc in absurd (omega arith)
 
-no-refusal : (cs : List (Option Refusal)) → All (λ o. o ≡ None) cs → first_of cs ≡ None
+no-refusal : (cs : List (Option Refusal)) → AllByRecursion (λ o. o ≡ None) cs → first_of cs ≡ None
 no-refusal [] h = refl
 no-refusal (o ∷ cs) h = ap (λ p. first_of (p ∷ cs)) h.0 ∙ no-refusal cs h.1
 
@@ -141,9 +141,9 @@ module _ (d : Image) (size : ℕ) (l : Layout d size) (t : Tree d) where
       let own = owns e told.0 h in
       let i = owner d e in
       let P : ℕ × Rect → Type 0 = λ b. (i < b.0) × (b.0 < node_count (table_of d)) in
-      let all : All P (flat_map branch_in (node_of d i)) = subst (λ slots. All P (flat_map branch_in slots)) (node_at-table_of d i own.0) (t.lawful.down i (omega (arith, own.0, node-count d))) in
-      let each = joined-all P _ (start d i) (d.count i) (subst (All P) (node-gives d l.counts branch_in refl i own.0) all) e own.1 (omega (arith, own.2, start-more d i)) in
-      let here = (subst (All P) (branch-gives d e told.1) each).0 in
+      let all : AllByRecursion P (flat_map branch_in (node_of d i)) = subst (λ slots. AllByRecursion P (flat_map branch_in slots)) (node_at-table_of d i own.0) (t.lawful.down i (omega (arith, own.0, node-count d))) in
+      let each = joined-all P _ (start d i) (d.count i) (subst (AllByRecursion P) (node-gives d l.counts branch_in refl i own.0) all) e own.1 (omega (arith, own.2, start-more d i)) in
+      let here = (subst (AllByRecursion P) (branch-gives d e told.1) each).0 in
       (here.0, omega (arith, here.1, node-count d))
 
   is-first : (e : ℕ) → e < d.entries → is_branch d e ≡ true → leader_below d e (d.target e) ≡ 0
@@ -193,20 +193,20 @@ module _ (d : Image) (size : ℕ) (l : Layout d size) (t : Tree d) where
       label-at (d.target e) (d.west e) (d.south e) (l.numbers e h y) west.1 south.1
 
   -- the box of node i, which its leader has, contains its slots
-  held : (i : ℕ) → i < d.nodes → (leader d i < d.entries) × All (λ s. lies_in (box_of d (leader d i)) s ≡ true) (node_of d i)
+  held : (i : ℕ) → i < d.nodes → (leader d i < d.entries) × AllByRecursion (λ s. lies_in (box_of d (leader d i)) s ≡ true) (node_of d i)
   unfolding table_of
   held zero h =
       let root : leader d 0 ≡ 0 = no-leader d d.entries (λ e k b. omega (arith, (goes_down e k b).0)) in
-      subst (λ b. (b < d.entries) × All (λ s. lies_in (box_of d b) s ≡ true) (node_of d 0)) (sym root)
-      (omega (arith, l.entries.0), subst (All (λ s. lies_in (box_of d 0) s ≡ true)) (node_at-table_of d 0 h) t.lawful.inside.0)
+      subst (λ b. (b < d.entries) × AllByRecursion (λ s. lies_in (box_of d b) s ≡ true) (node_of d 0)) (sym root)
+      (omega (arith, l.entries.0), subst (AllByRecursion (λ s. lies_in (box_of d 0) s ≡ true)) (node_at-table_of d 0 h) t.lawful.inside.0)
   held (suc i) h =
       let led : leader d (suc i) ≡ 0 → ⊥ = (let w = led-fine (suc i) h in λ z. both_ways (not (leader d (suc i) == 0)) (grind (arith, nat_tests)) w) in
       let is = leader-is d d.entries (suc i) led in
       let told = branch-told d (leader d (suc i)) is.0 in
-      let Held : ℕ × Rect → Type 0 = λ b. All (λ s. lies_in b.1 s ≡ true) (node_at (table_of d) b.0) in
-      let each = joined-all Held _ 1 (d.entries - 1) (subst (All Held) table-branches t.lawful.inside.1) (leader d (suc i)) told.0 (omega (arith, is.2)) in
-      let here = (subst (All Held) (branch-gives d (leader d (suc i)) told.1) each).0 in
-      (is.2, subst (All (λ s. lies_in (box_of d (leader d (suc i))) s ≡ true)) (ap (node_at (table_of d)) is.1 ∙ node_at-table_of d (suc i) h) here)
+      let Held : ℕ × Rect → Type 0 = λ b. AllByRecursion (λ s. lies_in b.1 s ≡ true) (node_at (table_of d) b.0) in
+      let each = joined-all Held _ 1 (d.entries - 1) (subst (AllByRecursion Held) table-branches t.lawful.inside.1) (leader d (suc i)) told.0 (omega (arith, is.2)) in
+      let here = (subst (AllByRecursion Held) (branch-gives d (leader d (suc i)) told.1) each).0 in
+      (is.2, subst (AllByRecursion (λ s. lies_in (box_of d (leader d (suc i))) s ≡ true)) (ap (node_at (table_of d)) is.1 ∙ node_at-table_of d (suc i) h) here)
 
   inside-fine : (e : ℕ) → e < d.entries → inside_fine d e ≡ true
   inside-fine zero h = refl

@@ -4,7 +4,7 @@ use Rattle.std.proofs.Math.Path.{refl, ap, subst}
 use Rattle.std.proofs.Common.{sym, ◌∙◌}
 use Rattle.std.proofs.Math.Logic.{⊎_elim}
 use native.Mathlib.Omega.{arith}
-use Rattle.std.specs.List.{range_with_len, flat_map, AllByRecursion as All}
+use Rattle.std.specs.List.{range_with_len, flat_map, AllByRecursion}
 use Rattle.std.proofs.ByRecursion.{All-get_or}
 use Rattle.std.proofs.lemmas.List.FromFn.{length-map-range_with_len, get_or-map-range_with_len}
 use Rattle.std.proofs.lemmas.Bool.{cases_Bool, cases_lt, cond-true, cond-false, both_ways}
@@ -27,7 +27,7 @@ use Rattle.image.specs.Repeats.{occurs, once-each, distinct-once}
 use Rattle.image.specs.Numbering.{plan-numbers}
 use Rattle.image.specs.Leaders.{hits-once, branch-gives, leader-here, leader-stays, no-leader}
 
-all-counting : {X : Type 0} (P : X → Type 0) (f : ℕ → X) (a n : ℕ) → ((j : ℕ) → a ≤ j → j < a + n → P (f j)) → All P (map f (range_with_len a n))
+all-counting : {X : Type 0} (P : X → Type 0) (f : ℕ → X) (a n : ℕ) → ((j : ℕ) → a ≤ j → j < a + n → P (f j)) → AllByRecursion P (map f (range_with_len a n))
 all-counting P f a zero h = tt
 all-counting P f a (suc n) h = (h a (omega arith) (omega arith), all-counting P f (a + 1) n (λ j l m. h j (omega arith) (omega arith)))
 
@@ -49,7 +49,7 @@ module _ (d : Image) where
   node-twelve i = refl
 
   -- a slot of a node is one of its entries, or empty
-  pub node-all : (P : Slot → Type 0) (i : ℕ) → P Empty → ((e : ℕ) → start d i ≤ e → e < start d (suc i) → P (slot_of d i e)) → All P (node_of d i)
+  pub node-all : (P : Slot → Type 0) (i : ℕ) → P Empty → ((e : ℕ) → start d i ≤ e → e < start d (suc i) → P (slot_of d i e)) → AllByRecursion P (node_of d i)
   unfolding node_of
   node-all P i none some = all-counting P _ 0 12 (λ j l m. ⊎_elim
       (λ (c : j < d.count i). subst P (sym (cond-true (nat_lt j (d.count i)) (slot_of d i (start d i + j)) Empty (grind (arith, nat_tests)))) (some (start d i + j) (omega arith) (omega (arith, start-more d i))))
@@ -57,7 +57,7 @@ module _ (d : Image) where
       (cases_lt j (d.count i)))
 
   -- and every entry is one
-  pub node-pick : (P : Slot → Type 0) (i e : ℕ) → d.count i ≤ 12 → start d i ≤ e → e < start d (suc i) → All P (node_of d i) → P (slot_of d i e)
+  pub node-pick : (P : Slot → Type 0) (i e : ℕ) → d.count i ≤ 12 → start d i ≤ e → e < start d (suc i) → AllByRecursion P (node_of d i) → P (slot_of d i e)
   unfolding node_of
   node-pick P i e c lo hi all =
       let j = e - start d i in
@@ -91,14 +91,14 @@ module _ (d : Image) (p : Passed d) where
       or-true true = refl
       or-true false = refl
 
-  downwards : (i : ℕ) → i < d.nodes → All (λ b. (i < b.0) × (b.0 < d.nodes)) (branches_in (node_of d i))
+  downwards : (i : ℕ) → i < d.nodes → AllByRecursion (λ b. (i < b.0) × (b.0 < d.nodes)) (branches_in (node_of d i))
   unfolding branches_in
-  downwards i h = subst (All (λ b. (i < b.0) × (b.0 < d.nodes))) (sym (node-gives d counts branch_in refl i h)) (all-joined _ _ (start d i) (d.count i) (λ e a b.
+  downwards i h = subst (AllByRecursion (λ b. (i < b.0) × (b.0 < d.nodes))) (sym (node-gives d counts branch_in refl i h)) (all-joined _ _ (start d i) (d.count i) (λ e a b.
       let m = mine i e h a (omega (arith, start-more d i)) in ⊎_elim
-      (λ (t : is_leaf d (owner d e) ≡ true). subst (All (λ b. (i < b.0) × (b.0 < d.nodes))) (sym (ap branch_in (cond-true (is_leaf d (owner d e)) _ _ t))) tt)
+      (λ (t : is_leaf d (owner d e) ≡ true). subst (AllByRecursion (λ b. (i < b.0) × (b.0 < d.nodes))) (sym (ap branch_in (cond-true (is_leaf d (owner d e)) _ _ t))) tt)
       (λ (f : is_leaf d (owner d e) ≡ false).
       let fine = branch-of d p e m.2 (branch-entry d e m.1 f) in
-      subst (All (λ b. (i < b.0) × (b.0 < d.nodes))) (sym (branch-gives d e f)) ((omega (arith, fine.later, m.0), fine.below), tt))
+      subst (AllByRecursion (λ b. (i < b.0) × (b.0 < d.nodes))) (sym (branch-gives d e f)) ((omega (arith, fine.later, m.0), fine.below), tt))
       (cases_Bool (is_leaf d (owner d e)))))
 
   pub table-branches : branches (table_of d) ≡ flat_map (λ e. branch_in (slot_of d (owner d e) e)) (range_with_len 1 (d.entries - 1))
@@ -132,7 +132,7 @@ module _ (d : Image) (p : Passed d) where
   sides-of : (e : ℕ) → e < d.entries → ((box_of d e).west ≡ d.west e) × ((box_of d e).south ≡ d.south e) × ((box_of d e).east ≡ d.east e) × ((box_of d e).north ≡ d.north e)
   sides-of e h = let spans = spans-of d p e h in rect-at (d.west e) (d.south e) (d.east e) (d.north e) spans.0 spans.1
 
-  lies : (k b : ℕ) → k < d.nodes → b < d.entries → leader d k ≡ b → All (λ s. lies_in (box_of d b) s ≡ true) (node_of d k)
+  lies : (k b : ℕ) → k < d.nodes → b < d.entries → leader d k ≡ b → AllByRecursion (λ s. lies_in (box_of d b) s ≡ true) (node_of d k)
   lies k b h l q = node-all d (λ s. lies_in (box_of d b) s ≡ true) k refl (λ e lo hi.
       let m = mine k e h lo hi in
       let from : leader d (owner d e) ≡ b = ap (leader d) m.0 ∙ q in
@@ -158,22 +158,22 @@ module _ (d : Image) (p : Passed d) where
       ((λ i. spanning (outer.1 i) (outer.3 i) (inner.1 i) (inner.3 i)) ∙ told.1)))
       (cases_Bool (is_leaf d k)))
 
-  boxes-hold : All (λ b. All (λ s. lies_in b.1 s ≡ true) (node_at (table_of d) b.0)) (boxed (table_of d))
+  boxes-hold : AllByRecursion (λ b. AllByRecursion (λ s. lies_in b.1 s ≡ true) (node_at (table_of d) b.0)) (boxed (table_of d))
   unfolding table_of
   boxes-hold = (
-    subst (All (λ s. lies_in (box_of d 0) s ≡ true)) (sym (node_at-table_of d 0 (omega (arith, p.nodes.0)))) (lies 0 0 (omega (arith, p.nodes.0)) (omega (arith, p.entries.0)) (no-leader d d.entries (λ e h b. omega (arith, (branch-of d p e h b).later)))),
-    subst (All Held) (sym table-branches) (all-joined Held _ 1 (d.entries - 1) (λ e l m.
+    subst (AllByRecursion (λ s. lies_in (box_of d 0) s ≡ true)) (sym (node_at-table_of d 0 (omega (arith, p.nodes.0)))) (lies 0 0 (omega (arith, p.nodes.0)) (omega (arith, p.entries.0)) (no-leader d d.entries (λ e h b. omega (arith, (branch-of d p e h b).later)))),
+    subst (AllByRecursion Held) (sym table-branches) (all-joined Held _ 1 (d.entries - 1) (λ e l m.
         let h : e < d.entries = omega (arith, p.entries.0) in ⊎_elim
-        (λ (t : is_leaf d (owner d e) ≡ true). subst (All Held) (sym (ap branch_in (cond-true (is_leaf d (owner d e)) _ _ t))) tt)
+        (λ (t : is_leaf d (owner d e) ≡ true). subst (AllByRecursion Held) (sym (ap branch_in (cond-true (is_leaf d (owner d e)) _ _ t))) tt)
         (λ (f : is_leaf d (owner d e) ≡ false).
         let b = branch-entry d e l f in
         let fine = branch-of d p e h b in
-        subst (All Held) (sym (branch-gives d e f)) (subst (All (λ s. lies_in (box_of d e) s ≡ true)) (sym (node_at-table_of d (d.target e) fine.below)) (lies (d.target e) e fine.below h (leads e h b)), tt))
+        subst (AllByRecursion Held) (sym (branch-gives d e f)) (subst (AllByRecursion (λ s. lies_in (box_of d e) s ≡ true)) (sym (node_at-table_of d (d.target e) fine.below)) (lies (d.target e) e fine.below h (leads e h b)), tt))
         (cases_Bool (is_leaf d (owner d e))))),
   )
     where
       Held : ℕ × Rect → Type 0
-      Held b = All (λ s. lies_in b.1 s ≡ true) (node_at (table_of d) b.0)
+      Held b = AllByRecursion (λ s. lies_in b.1 s ≡ true) (node_at (table_of d) b.0)
 
   label-of : (e : ℕ) → e < d.entries → is_leaf_entry d e ≡ true → (label_of d e).number ≡ d.target e
   label-of e h t =
@@ -182,7 +182,7 @@ module _ (d : Image) (p : Passed d) where
       let south = spanned (d.south e) (d.north e) spans.1 in
       (label-at (d.target e) (d.west e) (d.south e) (number_of d p e h t) west.1 south.1).0
 
-  every : (P : List Slot → Type 0) → ((i : ℕ) → i < d.nodes → P (node_of d i)) → All P (table_of d).nodes
+  every : (P : List Slot → Type 0) → ((i : ℕ) → i < d.nodes → P (node_of d i)) → AllByRecursion P (table_of d).nodes
   unfolding table_of
   every P h = all-counting P (node_of d) 0 d.nodes (λ i l m. h i (omega arith))
 
@@ -192,7 +192,7 @@ module _ (d : Image) (p : Passed d) where
     few = omega (arith, node-count d, p.nodes.1);
     twelve = every (λ slots. length slots ≡ 12) (λ i h. node-twelve d i);
     kinds = every (λ slots. (laws.is_leaf slots || is_inner slots) ≡ true) leaf-or-inner;
-    down = λ i h. let l : i < d.nodes = omega (arith, node-count d) in subst (λ n. All (λ b. (i < b.0) × (b.0 < n)) (branches_in (node_at (table_of d) i))) (sym (node-count d)) (subst (λ slots. All (λ b. (i < b.0) × (b.0 < d.nodes)) (branches_in slots)) (sym (node_at-table_of d i l)) (downwards i l));
+    down = λ i h. let l : i < d.nodes = omega (arith, node-count d) in subst (λ n. AllByRecursion (λ b. (i < b.0) × (b.0 < n)) (branches_in (node_at (table_of d) i))) (sym (node-count d)) (subst (λ slots. AllByRecursion (λ b. (i < b.0) × (b.0 < d.nodes)) (branches_in slots)) (sym (node_at-table_of d i l)) (downwards i l));
     once = λ k z h. led-once k z (omega (arith, node-count d));
     inside = boxes-hold;
     apart = distinct-once (plan (table_of d)) (λ k. omega (arith, once-each (label_numbers d) p.numbers k, ap (occurs k) (plan-numbers d label-of p.entries.0 counts p.sum)));

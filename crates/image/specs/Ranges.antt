@@ -1,7 +1,7 @@
 -- Lists gone through by index.
 use Rattle.std.specs.Prelude.{◌≡◌, ℕ, zero, suc, ◌+◌, ◌-◌, ◌<◌, ◌≤◌, cond, List, [], ◌∷◌, ◌++◌, map, nat_lt, refl}
 use Rattle.std.proofs.Common.{sym, ap, subst, ◌∙◌, ⊎_elim, arith}
-use Rattle.std.specs.List.{range_with_len, flat_map, AllByRecursion as All}
+use Rattle.std.specs.List.{range_with_len, flat_map, AllByRecursion}
 use Rattle.std.proofs.lemmas.List.{append_assoc}
 use Rattle.std.proofs.ByRecursion.{All-append}
 use Rattle.std.proofs.lemmas.Bool.{cases_lt, cases_eq, cond-true, cond-false}
@@ -26,19 +26,19 @@ joined_same f g a zero h = refl
 joined_same f g a (suc n) h = λ i. h a (omega arith) (omega arith) i ++ joined_same f g (a + 1) n (λ e l m. h e (omega arith) (omega arith)) i
 
 -- what holds of all that each index gives
-pub all-joined : {X : Type 0} (P : X → Type 0) (f : ℕ → List X) (a n : ℕ) → ((e : ℕ) → a ≤ e → e < a + n → All P (f e)) → All P (flat_map f (range_with_len a n))
+pub all-joined : {X : Type 0} (P : X → Type 0) (f : ℕ → List X) (a n : ℕ) → ((e : ℕ) → a ≤ e → e < a + n → AllByRecursion P (f e)) → AllByRecursion P (flat_map f (range_with_len a n))
 all-joined P f a zero h = tt
 all-joined P f a (suc n) h = All-append P (f a) (flat_map f (range_with_len (a + 1) n)) (h a (omega arith) (omega arith)) (all-joined P f (a + 1) n (λ e l m. h e (omega arith) (omega arith)))
 
-all-parts : {X : Type 0} (P : X → Type 0) (xs ys : List X) → All P (xs ++ ys) → All P xs × All P ys
+all-parts : {X : Type 0} (P : X → Type 0) (xs ys : List X) → AllByRecursion P (xs ++ ys) → AllByRecursion P xs × AllByRecursion P ys
 all-parts P [] ys h = (tt, h)
 all-parts P (x ∷ xs) ys h = let rest = all-parts P xs ys h.1 in ((h.0, rest.0), rest.1)
 
-pub joined-all : {X : Type 0} (P : X → Type 0) (f : ℕ → List X) (a n : ℕ) → All P (flat_map f (range_with_len a n)) → (e : ℕ) → a ≤ e → e < a + n → All P (f e)
+pub joined-all : {X : Type 0} (P : X → Type 0) (f : ℕ → List X) (a n : ℕ) → AllByRecursion P (flat_map f (range_with_len a n)) → (e : ℕ) → a ≤ e → e < a + n → AllByRecursion P (f e)
 joined-all P f a zero h e l m = absurd (omega arith)
 joined-all P f a (suc n) h e l m =
     let parts = all-parts P (f a) (flat_map f (range_with_len (a + 1) n)) h in
-    ⊎_elim (λ (q : a ≡ e). subst (λ k. All P (f k)) q parts.0) (λ (q : a ≡ e → ⊥). joined-all P f (a + 1) n parts.1 e (omega (arith, q)) (omega arith)) (cases_eq a e)
+    ⊎_elim (λ (q : a ≡ e). subst (λ k. AllByRecursion P (f k)) q parts.0) (λ (q : a ≡ e → ⊥). joined-all P f (a + 1) n parts.1 e (omega (arith, q)) (omega arith)) (cases_eq a e)
 
 -- the first c of m places are taken
 pub padded : {X : Type 0} (g : ℕ → List X) (a c b m : ℕ) → c ≤ b + m → flat_map (λ j. cond (nat_lt j c) (g (a + j)) []) (range_with_len b m) ≡ flat_map g (range_with_len (a + b) (c - b))

@@ -1,7 +1,7 @@
 -- No number occurs twice in a list exactly when none is its own next in the sorted list.
 use Rattle.std.specs.Prelude.{◌≡◌, ℕ, suc, ◌<◌, ◌≤◌, true, false, not, ◌||◌, ltb, List, [], ◌∷◌, map, length, Some, None, filter, ◌==◌, ◌≢◌, nat_eq, nat_lt, refl}
 use Rattle.std.proofs.Common.{sym, ap, subst, ◌∙◌, ⊎_elim, arith}
-use Rattle.std.specs.List.{AllByRecursion as All}
+use Rattle.std.specs.List.{AllByRecursion}
 use Rattle.std.proofs.lemmas.Bool.{cases_Bool, cases_eq, cond-true, cond-false, both_ways}
 use Rattle.std.proofs.lemmas.Bool.Decides.{nat_tests}
 use Rattle.queue.specs.Order.{sorted}
@@ -23,12 +23,12 @@ occurs-here n ns = ap length (keeps (λ m. nat_eq m n) n ns (grind (arith, nat_t
 occurs-past : (n m : ℕ) (ns : List ℕ) → (m ≢ n) → occurs n (m ∷ ns) ≡ occurs n ns
 occurs-past n m ns u = ap length (leaves (λ k. nat_eq k n) m ns (grind (arith, nat_tests)))
 
-larger : (n m : ℕ) (ns : List ℕ) → n < m → All (λ y. nat_lt y m ≡ false) ns → All (λ y. (y == n) ≡ false) ns
+larger : (n m : ℕ) (ns : List ℕ) → n < m → AllByRecursion (λ y. nat_lt y m ≡ false) ns → AllByRecursion (λ y. (y == n) ≡ false) ns
 larger n m [] h a = tt
 larger n m (k ∷ ns) h a = (let w = a.0 in grind (arith, nat_tests), larger n m ns h a.1)
 
 -- the first of a list in order that has no repeat does not come again
-first-once : (n : ℕ) (ns : List ℕ) → All (λ y. nat_lt y n ≡ false) ns → Ascending ltb ns → repeated_from n ns ≡ None → occurs n ns ≡ 0
+first-once : (n : ℕ) (ns : List ℕ) → AllByRecursion (λ y. nat_lt y n ≡ false) ns → Ascending ltb ns → repeated_from n ns ≡ None → occurs n ns ≡ 0
 first-once n [] a s h = refl
 first-once n (m ∷ ns) a s h = ⊎_elim
     (λ (q : n ≡ m). let w = sym (cond-true (n == m) (Some n) (repeated_from m ns) (grind (arith, nat_tests))) ∙ h in let z : ◌≡◌ {A = ℕ} 0 1 = cc in absurd (omega arith))

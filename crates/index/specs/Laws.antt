@@ -1,6 +1,6 @@
 -- What makes a table lawful.
 use Rattle.std.specs.Prelude.{◌≡◌, ℕ, ◌<◌, ◌≤◌, Bool, true, ◌||◌, List, length, Some, None, filter, Option, ◌==◌, nat_eq}
-use Rattle.std.specs.List.{AllByRecursion as All}
+use Rattle.std.specs.List.{AllByRecursion}
 use Rattle.geometry.specs.declared.rect.Rect.{Rect}
 use Rattle.geometry.specs.Plane.{holds, covering}
 use Rattle.geometry.specs.Numbers.{distinct}
@@ -29,13 +29,13 @@ pub record Lawful (t : Table) : Type 0 where
   -- from 1 to 300 nodes, each of twelve slots, a leaf or inner
   pub some : 1 ≤ node_count t
   pub few : node_count t ≤ 300
-  pub twelve : All (λ slots. length slots ≡ 12) t.nodes
-  pub kinds : All (λ slots. (is_leaf slots || is_inner slots) ≡ true) t.nodes
+  pub twelve : AllByRecursion (λ slots. length slots ≡ 12) t.nodes
+  pub kinds : AllByRecursion (λ slots. (is_leaf slots || is_inner slots) ≡ true) t.nodes
   -- a branch leads to a node of greater number, and every node but the root is led to by exactly one branch
-  pub down : (i : ℕ) → i < node_count t → All (λ b. (i < b.0) × (b.0 < node_count t)) (branches_in (node_at t i))
+  pub down : (i : ℕ) → i < node_count t → AllByRecursion (λ b. (i < b.0) × (b.0 < node_count t)) (branches_in (node_at t i))
   pub once : (k : ℕ) → 0 < k → k < node_count t → times_led_to t k ≡ 1
   -- a node's box, which is the root box or its branch's, contains what its slots have
-  pub inside : All (λ b. All (λ s. lies_in b.1 s ≡ true) (node_at t b.0)) (boxed t)
+  pub inside : AllByRecursion (λ b. AllByRecursion (λ s. lies_in b.1 s ≡ true) (node_at t b.0)) (boxed t)
   -- no label number occurs twice
   pub apart : distinct (plan t) ≡ true
 

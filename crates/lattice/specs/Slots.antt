@@ -1,7 +1,7 @@
 -- Twelve slots of which the first n are filled.
 use Rattle.std.specs.Prelude.{◌≡◌, ℕ, zero, suc, ◌+◌, ◌<◌, ◌≤◌, cond, List, [], ◌∷◌, ◌++◌, map, length, nat_lt, slice_index_or, refl}
 use Rattle.std.proofs.Common.{sym, ap, ◌∙◌, ⊎_elim, arith}
-use Rattle.std.specs.List.{range_with_len, flat_map, AllByRecursion as All}
+use Rattle.std.specs.List.{range_with_len, flat_map, AllByRecursion}
 use Rattle.std.proofs.lemmas.Bool.{ltb-true, lt-ltb, le-ltb, cond-true, cond-false, cond_both, cases_lt}
 use Rattle.std.proofs.lemmas.List.{get_or_past}
 use Rattle.std.proofs.lemmas.List.FromFn.{length-map-range_with_len, get_or-map-range_with_len}
@@ -30,7 +30,7 @@ pub first-empty : (n : ℕ) (f : ℕ → Slot) (j : ℕ) → n ≤ 12 → n ≤ 
 first-empty n f j h l = sym (cond-false (nat_lt j n) (f j) Empty (le-ltb j n l)) ∙ sym (first-at n f j h)
 
 -- what holds of the empty slot and of the first n holds of all
-pub first-all : (P : Slot → Type 0) (n : ℕ) (f : ℕ → Slot) → P Empty → ((j : ℕ) → j < n → P (f j)) → All P (first_slots n f)
+pub first-all : (P : Slot → Type 0) (n : ℕ) (f : ℕ → Slot) → P Empty → ((j : ℕ) → j < n → P (f j)) → AllByRecursion P (first_slots n f)
 unfolding first_slots
 first-all P n f e h = all-counted P (λ j. cond (nat_lt j n) (f j) Empty) 0 12 (λ j p. cond_both (nat_lt j n) (f j) Empty P (λ t. h j (ltb-true j n t)) (λ _. e))
 

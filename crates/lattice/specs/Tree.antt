@@ -3,7 +3,7 @@ use Rattle.std.specs.Prelude.{◌≡◌, ℕ, zero, suc, ◌+◌, ◌-◌, ◌*�
 use Rattle.std.proofs.Math.Path.{refl, sym, ap, subst}
 use Rattle.std.proofs.Common.{◌∙◌, add-one}
 use native.Mathlib.Omega.{arith}
-use Rattle.std.specs.List.{range_with_len, flat_map, AllByRecursion as All}
+use Rattle.std.specs.List.{range_with_len, flat_map, AllByRecursion}
 use Rattle.std.proofs.lemmas.Bool.{leb-true, or_left, or_right}
 use Rattle.std.proofs.lemmas.List.{append-nil}
 use Rattle.std.proofs.lemmas.List.FromFn.{length-map-range_with_len, get_or-map-range_with_len}
@@ -68,23 +68,23 @@ module _ (rows columns step : ℕ) (x y : ℤ) (first : ℕ) (lines : Lines rows
   all-branches = ap (λ l. branches_in root ++ l) (joined-counted branches_in leaf (λ _. []) leaf-branches 0 rows ∙ joined-none {A = ℕ × Rect} 0 rows) ∙ append-nil (branches_in root) ∙ root-branches
 
   -- the laws one by one
-  twelve : All (λ slots. length slots ≡ 12) grid.nodes
+  twelve : AllByRecursion (λ slots. length slots ≡ 12) grid.nodes
   unfolding grid_table
   twelve = (first-length _ _, all-counted (λ slots. length slots ≡ 12) leaf 0 rows (λ i h. first-length _ _))
 
-  kinds : All (λ slots. (is_leaf slots || is_inner slots) ≡ true) grid.nodes
+  kinds : AllByRecursion (λ slots. (is_leaf slots || is_inner slots) ≡ true) grid.nodes
   unfolding grid_table
   kinds = (
     or_right (is_leaf root) (is_inner root) (ap (λ l. nat_eq (length l) 0) root-labels),
     all-counted (λ slots. (is_leaf slots || is_inner slots) ≡ true) leaf 0 rows (λ i h. or_left (is_leaf (leaf i)) (is_inner (leaf i)) (ap (λ l. nat_eq (length l) 0) (leaf-branches i))),
   )
 
-  down : (i : ℕ) → i < node_count grid → All (λ b. (i < b.0) × (b.0 < node_count grid)) (branches_in (node_at grid i))
+  down : (i : ℕ) → i < node_count grid → AllByRecursion (λ b. (i < b.0) × (b.0 < node_count grid)) (branches_in (node_at grid i))
   unfolding grid_table
-  down zero h = subst (All (λ b. (0 < b.0) × (b.0 < node_count grid))) (sym root-branches) (all-counted (λ b. (0 < b.0) × (b.0 < node_count grid)) branch 0 rows (λ i h. (omega arith, omega (arith, count))))
+  down zero h = subst (AllByRecursion (λ b. (0 < b.0) × (b.0 < node_count grid))) (sym root-branches) (all-counted (λ b. (0 < b.0) × (b.0 < node_count grid)) branch 0 rows (λ i h. (omega arith, omega (arith, count))))
   down (suc i) h =
       let node : node_at grid (suc i) ≡ leaf i = get_or-map-range_with_len leaf 0 rows i i [] (omega (arith, count)) (omega arith) in
-      subst (All (λ b. (suc i < b.0) × (b.0 < node_count grid))) (sym (ap branches_in node ∙ leaf-branches i)) tt
+      subst (AllByRecursion (λ b. (suc i < b.0) × (b.0 < node_count grid))) (sym (ap branches_in node ∙ leaf-branches i)) tt
 
   once : (k : ℕ) → 0 < k → k < node_count grid → times_led_to grid k ≡ 1
   once k p q = ap (λ bs. length (filter (λ b. nat_eq b.0 k) bs)) all-branches ∙ one-begins (grid_row columns step x y) k 0 rows p (omega (arith, count))
@@ -93,28 +93,28 @@ module _ (rows columns step : ℕ) (x y : ℤ) (first : ℕ) (lines : Lines rows
   east : (j : ℕ) → j < columns → along x step j ≤ℤ along x step (columns - 1)
   east j h = along-rises x step j (columns - 1) (omega arith)
 
-  root-inside : All (λ s. lies_in grid.box s ≡ true) root
+  root-inside : AllByRecursion (λ s. lies_in grid.box s ≡ true) root
   unfolding grid_table
   root-inside = first-all (λ s. lies_in grid.box s ≡ true) rows (λ i. Leads (grid_row columns step x y i) (i + 1)) refl (λ i h.
       box-covers x y (along x step (columns - 1)) (along y step (rows - 1)) x (along y step i) (along x step (columns - 1)) (along y step i) (le_refl x) (along-starts x step (columns - 1)) (le_refl _) (along-starts y step i) (le_refl _) (along-rises y step i (rows - 1) (omega arith)))
 
-  leaf-inside : (i : ℕ) → All (λ s. lies_in (grid_row columns step x y i) s ≡ true) (leaf i)
+  leaf-inside : (i : ℕ) → AllByRecursion (λ s. lies_in (grid_row columns step x y i) s ≡ true) (leaf i)
   leaf-inside i = first-all (λ s. lies_in (grid_row columns step x y i) s ≡ true) columns (λ j. Holds (grid_label step x y first i j)) refl (λ j h.
       box-holds x (along y step i) (along x step (columns - 1)) (along y step i) (along x step j) (along y step i) (first + 12 * i + j) (along-starts x step j) (east j h) (le_refl _) (le_refl _))
 
   -- what a node has lies in its box
   abbrev Held : ℕ × Rect → Type 0
-  Held b = All (λ s. lies_in b.1 s ≡ true) (node_at grid b.0)
+  Held b = AllByRecursion (λ s. lies_in b.1 s ≡ true) (node_at grid b.0)
 
   root-held : Held (0, grid.box)
   unfolding grid_table
   root-held = root-inside
 
   row-held : (i : ℕ) → i < rows → Held (branch i)
-  row-held i h = subst (All (λ s. lies_in (grid_row columns step x y i) s ≡ true)) (sym (leaf-at i h)) (leaf-inside i)
+  row-held i h = subst (AllByRecursion (λ s. lies_in (grid_row columns step x y i) s ≡ true)) (sym (leaf-at i h)) (leaf-inside i)
 
-  inside : All Held (boxed grid)
-  inside = (root-held, subst (All Held) (sym all-branches) (all-counted Held branch 0 rows (λ i h. row-held i (omega arith))))
+  inside : AllByRecursion Held (boxed grid)
+  inside = (root-held, subst (AllByRecursion Held) (sym all-branches) (all-counted Held branch 0 rows (λ i h. row-held i (omega arith))))
 
   pub lawful : Numbered rows columns first → Lawful grid
   lawful numbers = record {

@@ -1,7 +1,7 @@
 -- In a list that rises by distance the candidates come first.
 use Rattle.std.specs.Prelude.{◌≡◌, ℕ, zero, suc, ◌-◌, ◌<◌, ◌≤◌, Bool, true, false, not, List, [], ◌∷◌, ◌++◌, length, filter, nat_lt, slice_index_or}
 use Rattle.std.proofs.Common.{sym, ap, subst, ◌∙◌, ⊎_elim, arith}
-use Rattle.std.specs.List.{AllByRecursion as All}
+use Rattle.std.specs.List.{AllByRecursion}
 use Rattle.std.proofs.lemmas.Bool.{cases_Bool, cases_lt, both_ways}
 use Rattle.std.proofs.lemmas.Bool.Decides.{nat_tests}
 use Rattle.std.proofs.lemmas.List.{append-nil, get_or_past}
@@ -13,7 +13,7 @@ use Rattle.queue.proofs.Keeping.{keeps, keeps-none, keeps-more}
 use Rattle.queue.proofs.Ascending.{Ascending}
 use Rattle.listing.specs.Neighbours.{candidate}
 
-all-front : {X : Type 0} (P : X → Type 0) (ys zs : List X) → All P (ys ++ zs) → All P ys
+all-front : {X : Type 0} (P : X → Type 0) (ys zs : List X) → AllByRecursion P (ys ++ zs) → AllByRecursion P ys
 all-front P [] zs h = tt
 all-front P (y ∷ ys) zs h = (h.0, all-front P ys zs h.1)
 
@@ -26,7 +26,7 @@ module _ {X D : Type 0} {lt : D → D → Bool} (o : Order lt) (key : X → D) w
   Rising xs = Ascending (λ a b. lt (key a) (key b)) xs
 
   -- what comes after something that is not nearer than d is not nearer than d
-  none-nearer : (x : X) (d : D) (ys : List X) → lt (key x) d ≡ false → All (λ y. lt (key y) (key x) ≡ false) ys → All (λ y. lt (key y) d ≡ false) ys
+  none-nearer : (x : X) (d : D) (ys : List X) → lt (key x) d ≡ false → AllByRecursion (λ y. lt (key y) (key x) ≡ false) ys → AllByRecursion (λ y. lt (key y) d ≡ false) ys
   none-nearer x d [] h a = tt
   none-nearer x d (y ∷ ys) h a = (chain-not o (key y) (key x) d a.0 h, none-nearer x d ys h a.1)
 
@@ -66,7 +66,7 @@ module _ {X D : Type 0} {lt : D → D → Bool} (o : Order lt) (key : X → D) w
       ap length (filter-append near ys (x ∷ zs) ∙ ap (λ l. filter near ys ++ l) (keeps-none near (x ∷ zs) (o.never (key x), here.0)) ∙ append-nil (filter near ys))
 
   -- of what comes after no candidate none is one
-  none_after : (k : ℕ) (xs : List X) (x : X) (zs : List X) → candidate (λ a b. lt (key a) (key b)) k xs x ≡ false → All (λ z. lt (key z) (key x) ≡ false) zs → All (λ z. candidate (λ a b. lt (key a) (key b)) k xs z ≡ false) zs
+  none_after : (k : ℕ) (xs : List X) (x : X) (zs : List X) → candidate (λ a b. lt (key a) (key b)) k xs x ≡ false → AllByRecursion (λ z. lt (key z) (key x) ≡ false) zs → AllByRecursion (λ z. candidate (λ a b. lt (key a) (key b)) k xs z ≡ false) zs
   none_after k xs x [] h a = tt
   none_after k xs x (z ∷ zs) h a =
       let more : count (key x) xs ≤ count (key z) xs = keeps-more (λ y. lt (key y) (key x)) (λ y. lt (key y) (key z)) (λ y t. later y t) xs in

@@ -2,7 +2,7 @@
 use Rattle.std.specs.Prelude.{◌≡◌, ℕ, ◌+◌, ◌-◌, ◌<◌, ◌≤◌, Bool, true, false, not, List, [], ◌∷◌, ◌++◌, map, length, take, filter, nat_lt, slice_index_or, refl}
 use Rattle.std.proofs.Math.Path.{sym, ap}
 use Rattle.std.proofs.Common.{subst, ◌∙◌, ⊎_elim, arith}
-use Rattle.std.specs.List.{AllByRecursion as All}
+use Rattle.std.specs.List.{AllByRecursion}
 use Rattle.std.proofs.lemmas.Bool.{cases_Bool, cond-true, both_ways}
 use Rattle.std.proofs.lemmas.List.{append_assoc, append-nil, take_all, take_more, map-append}
 use Rattle.std.proofs.lemmas.List.Elements.{filter-append}
@@ -28,7 +28,7 @@ module _ {D : Type 0} {lt : D → D → Bool} (o : Order lt) where
       λ t. record { distance = ed t; number = en t })
 
   -- what rises by distance and number rises by distance
-  all_first : (x : Found D) (ys : List (Found D)) → All (λ y. closer lt y x ≡ false) ys → All (λ y. nearer lt y x ≡ false) ys
+  all_first : (x : Found D) (ys : List (Found D)) → AllByRecursion (λ y. closer lt y x ≡ false) ys → AllByRecursion (λ y. nearer lt y x ≡ false) ys
   all_first x [] h = tt
   all_first x (y ∷ ys) h = (⊎_elim (λ t. absurd (both_ways (closer lt y x) h.0 (cond-true (nearer lt y x) _ _ t))) (λ f. f) (cases_Bool (nearer lt y x)), all_first x ys h.1)
 

@@ -1,6 +1,6 @@
 -- The order of answers: the label items of distinct labels come by distance and then by number.
 use Rattle.std.proofs.Common.{◌≡◌, ℕ, Bool, true, false, cond, not, eqb, ltb, List, [], ◌∷◌, map, length, None, filter, Option, sym, refl, ap, ◌∙◌, arith}
-use Rattle.std.specs.List.{AllByRecursion as All}
+use Rattle.std.specs.List.{AllByRecursion}
 use Rattle.std.proofs.lemmas.Bool.{cond_both, or_parts, or_from, and_parts, and_from, not-true, not_from_false}
 use Rattle.std.proofs.ByRecursion.{All-weaker}
 use Rattle.std.proofs.lemmas.Bool.Decides.{nat_tests}
@@ -20,7 +20,7 @@ use Rattle.neighbours.specs.Ordering.{item-order}
 use Rattle.neighbours.proofs.Arranging.{Agree, sorted-alike, sorted-map, count-arranged}
 
 -- a number that is not there is none of those that are
-pub absent-all : (n : ℕ) (ls : List Label) → present n ls ≡ false → All (λ m. eqb m.number n ≡ false) ls
+pub absent-all : (n : ℕ) (ls : List Label) → present n ls ≡ false → AllByRecursion (λ m. eqb m.number n ≡ false) ls
 absent-all n [] h = tt
 absent-all n (l ∷ ls) h = let e = or_parts (eqb l.number n) (present n ls) h in (e.0, absent-all n ls e.1)
 

@@ -1,16 +1,16 @@
 -- What `sorted` keeps by whatever test it compares.
 use Rattle.std.proofs.Common.{◌≡◌, ℕ, suc, Bool, true, false, cond, List, [], ◌∷◌, map, length, filter, sym, refl, ap, ◌∙◌}
-use Rattle.std.specs.List.{AllByRecursion as All}
+use Rattle.std.specs.List.{AllByRecursion}
 use Rattle.std.proofs.lemmas.Bool.{cond_both}
 use Rattle.queue.specs.Order.{insert, sorted}
 
 module _ {X : Type 0} (f : X → X → Bool) where
-  all_inserted : (P : X → Type 0) (x : X) (ys : List X) → P x → All P ys → All P (insert f x ys)
+  all_inserted : (P : X → Type 0) (x : X) (ys : List X) → P x → AllByRecursion P ys → AllByRecursion P (insert f x ys)
   unfolding insert
   all_inserted P x [] p h = (p, tt)
-  all_inserted P x (y ∷ ys) p h = cond_both (f y x) (y ∷ insert f x ys) (x ∷ (y ∷ ys)) (All P) (λ t. (h.0, all_inserted P x ys p h.1)) (λ e. (p, h))
+  all_inserted P x (y ∷ ys) p h = cond_both (f y x) (y ∷ insert f x ys) (x ∷ (y ∷ ys)) (AllByRecursion P) (λ t. (h.0, all_inserted P x ys p h.1)) (λ e. (p, h))
 
-  pub all-arranged : (P : X → Type 0) (xs : List X) → All P xs → All P (sorted f xs)
+  pub all-arranged : (P : X → Type 0) (xs : List X) → AllByRecursion P xs → AllByRecursion P (sorted f xs)
   unfolding sorted
   all-arranged P [] h = tt
   all-arranged P (x ∷ xs) h = all_inserted P x (sorted f xs) h.0 (all-arranged P xs h.1)
@@ -45,10 +45,10 @@ module _ {X : Type 0} (f : X → X → Bool) where
 -- f and g compare each with those before it alike
 abbrev pub Agree : {X : Type 0} → (X → X → Bool) → (X → X → Bool) → List X → Type 0
 Agree f g [] = Unit {0}
-Agree f g (x ∷ xs) = All (λ y. f y x ≡ g y x) xs × Agree f g xs
+Agree f g (x ∷ xs) = AllByRecursion (λ y. f y x ≡ g y x) xs × Agree f g xs
 
 module _ {X : Type 0} (f g : X → X → Bool) where
-  insert-alike : (x : X) (ys : List X) → All (λ y. f y x ≡ g y x) ys → insert f x ys ≡ insert g x ys
+  insert-alike : (x : X) (ys : List X) → AllByRecursion (λ y. f y x ≡ g y x) ys → insert f x ys ≡ insert g x ys
   unfolding insert
   insert-alike x [] h = refl
   insert-alike x (y ∷ ys) h = λ i. cond (h.0 i) (y ∷ insert-alike x ys h.1 i) (x ∷ (y ∷ ys))

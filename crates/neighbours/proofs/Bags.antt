@@ -1,6 +1,6 @@
 -- Lists up to their order: two lists hold the same items when they are equal once sorted.
 use Rattle.std.proofs.Common.{◌≡◌, Bool, false, cond, List, [], ◌∷◌, ◌++◌, map, sym, refl, ap, ◌∙◌, subst, ⊎_elim}
-use Rattle.std.specs.List.{flat_map, AllByRecursion as All}
+use Rattle.std.specs.List.{flat_map, AllByRecursion}
 use Rattle.std.proofs.lemmas.List.{append_assoc, append-nil}
 use Rattle.std.proofs.ByRecursion.{All-append}
 use Rattle.std.proofs.lemmas.Bool.{cases_Bool, cond-true, cond-false}
@@ -21,23 +21,23 @@ pub joined-joined : {A B C : Type 0} (f : B → List C) (g : A → List B) (xs :
 joined-joined f g [] = refl
 joined-joined f g (x ∷ xs) = ap (λ l. flat_map f (g x) ++ l) (joined-joined f g xs) ∙ sym (joined-append f (g x) (flat_map g xs))
 
-pub joined_same : {X Y : Type 0} (f g : X → List Y) (xs : List X) (P : X → Type 0) → ((x : X) → P x → f x ≡ g x) → All P xs → flat_map f xs ≡ flat_map g xs
+pub joined_same : {X Y : Type 0} (f g : X → List Y) (xs : List X) (P : X → Type 0) → ((x : X) → P x → f x ≡ g x) → AllByRecursion P xs → flat_map f xs ≡ flat_map g xs
 joined_same f g [] P e h = refl
 joined_same f g (x ∷ xs) P e h = λ i. e x h.0 i ++ joined_same f g xs P e h.1 i
 
-pub all-joined : {X Y : Type 0} (f : X → List Y) (Q : Y → Type 0) (xs : List X) (P : X → Type 0) → ((x : X) → P x → All Q (f x)) → All P xs → All Q (flat_map f xs)
+pub all-joined : {X Y : Type 0} (f : X → List Y) (Q : Y → Type 0) (xs : List X) (P : X → Type 0) → ((x : X) → P x → AllByRecursion Q (f x)) → AllByRecursion P xs → AllByRecursion Q (flat_map f xs)
 all-joined f Q [] P e h = tt
 all-joined f Q (x ∷ xs) P e h = All-append Q (f x) (flat_map f xs) (e x h.0) (all-joined f Q xs P e h.1)
 
-all-parts : {X : Type 0} (P : X → Type 0) (xs ys : List X) → All P (xs ++ ys) → All P xs × All P ys
+all-parts : {X : Type 0} (P : X → Type 0) (xs ys : List X) → AllByRecursion P (xs ++ ys) → AllByRecursion P xs × AllByRecursion P ys
 all-parts P [] ys h = (tt, h)
 all-parts P (x ∷ xs) ys h = let rest = all-parts P xs ys h.1 in ((h.0, rest.0), rest.1)
 
-pub joined-parts : {X Y : Type 0} (f : X → List Y) (Q : Y → Type 0) (xs : List X) → All Q (flat_map f xs) → All (λ x. All Q (f x)) xs
+pub joined-parts : {X Y : Type 0} (f : X → List Y) (Q : Y → Type 0) (xs : List X) → AllByRecursion Q (flat_map f xs) → AllByRecursion (λ x. AllByRecursion Q (f x)) xs
 joined-parts f Q [] h = tt
 joined-parts f Q (x ∷ xs) h = let parts = all-parts Q (f x) (flat_map f xs) h in (parts.0, joined-parts f Q xs parts.1)
 
-pub all_both : {X : Type 0} (P Q : X → Type 0) (xs : List X) → All P xs → All Q xs → All (λ x. P x × Q x) xs
+pub all_both : {X : Type 0} (P Q : X → Type 0) (xs : List X) → AllByRecursion P xs → AllByRecursion Q xs → AllByRecursion (λ x. P x × Q x) xs
 all_both P Q [] p q = tt
 all_both P Q (x ∷ xs) p q = ((p.0, q.0), all_both P Q xs p.1 q.1)
 
@@ -67,12 +67,12 @@ module _ {X : Type 0} {lt : X → X → Bool} (o : Order lt) where
   pub sorted-swap-parts : (xs ys : List X) → sorted lt (xs ++ ys) ≡ sorted lt (ys ++ xs)
   sorted-swap-parts xs ys = ap (λ l. sorted lt (xs ++ l)) (sym (append-nil ys)) ∙ sorted-turn xs ys [] ∙ ap (λ l. sorted lt (ys ++ l)) (append-nil xs)
 
-  pub all-inserts : (P : X → Type 0) (xs ys : List X) → All P xs → All P ys → All P (inserts lt xs ys)
+  pub all-inserts : (P : X → Type 0) (xs ys : List X) → AllByRecursion P xs → AllByRecursion P ys → AllByRecursion P (inserts lt xs ys)
   unfolding inserts
   all-inserts P [] ys p q = q
   all-inserts P (x ∷ xs) ys p q = all_insert o P x (inserts lt xs ys) p.0 (all-inserts P xs ys p.1 q)
 
-  pub head-least : (xs : List X) (x : X) (ys : List X) → sorted lt xs ≡ x ∷ ys → All (λ y. lt y x ≡ false) ys
+  pub head-least : (xs : List X) (x : X) (ys : List X) → sorted lt xs ≡ x ∷ ys → AllByRecursion (λ y. lt y x ≡ false) ys
   head-least xs x ys e = (subst (Ascending lt) e (sorted-ascends o xs)).0
 
   -- x out of a list that it was put into

@@ -1,7 +1,7 @@
 -- What a walk has come to: its labels are the candidates in order, its nodes are the query's reach.
 use Rattle.std.proofs.Common.{◌≡◌, ℕ, suc, ◌+◌, ◌-◌, ◌<◌, ◌≤◌, Bool, true, cond, not, eqb, ltb, List, [], ◌∷◌, ◌++◌, map, length, None, sum_by, filter, Option, sym, refl, ap, ◌∙◌, ⊎_elim, arith}
 use mathlib.Core.Bool.{and_comm}
-use Rattle.std.specs.List.{AllByRecursion as All}
+use Rattle.std.specs.List.{AllByRecursion}
 use Rattle.std.proofs.lemmas.List.{append-nil, append_assoc, length-append, length-map, drop_at, drop_all, drop_more, drop-append-le}
 use Rattle.std.proofs.lemmas.List.Elements.{filter-append}
 use Rattle.std.proofs.lemmas.List.Sums.{sum_by-cons}
@@ -54,7 +54,7 @@ one_more k ds d came one e = ⊎_elim
 
 -- one more label, past nodes
 module _ {D : Type 0} where
-  labels-nodes : (xs : List (Item D)) → All (λ x. is_node x ≡ true) xs → labels_of xs ≡ []
+  labels-nodes : (xs : List (Item D)) → AllByRecursion (λ x. is_node x ≡ true) xs → labels_of xs ≡ []
   labels-nodes [] h = refl
   labels-nodes (x ∷ xs) h = (λ i. none x.subject h.0 i ++ labels-nodes xs h.1 i)
     where
@@ -112,7 +112,7 @@ kept-swap : {X : Type 0} (f g : X → Bool) (xs : List X) → filter f (filter g
 kept-swap {X} f g xs = kept-twice g f xs ∙ ap (λ (t : X → Bool). filter t xs) (λ i x. and_comm (g x) (f x) i) ∙ sym (kept-twice f g xs)
 
 -- what passes of all items, when a part has passed
-kept-part : {D : Type 0} (s : Scene D) (k : ℕ) (part rest : List (Item D)) → in_turn s ≡ part ++ rest → All (λ x. passes s k x ≡ true) part → filter (passes s k) (in_turn s) ≡ part ++ filter (passes s k) rest
+kept-part : {D : Type 0} (s : Scene D) (k : ℕ) (part rest : List (Item D)) → in_turn s ≡ part ++ rest → AllByRecursion (λ x. passes s k x ≡ true) part → filter (passes s k) (in_turn s) ≡ part ++ filter (passes s k) rest
 kept-part s k part rest e h = ap (filter (passes s k)) e ∙ filter-append (passes s k) part rest ∙ ap (λ l. l ++ filter (passes s k) rest) (keeps-all (passes s k) part h)
 
 -- a query at q, with the label of a number left out
@@ -170,7 +170,7 @@ module _ {D : Type 0} (lt : D → D → Bool) (t : Table) (dist : Place → Plac
       walk-nodes one = ap (λ l. length (filter is_node l)) (sym e) ∙ nodes-passing one
 
     -- a part of it
-    module _ (part rest : List (Item D)) (e : in_turn (asking lt t dist bound q own) ≡ part ++ rest) (h : All (λ x. passes (asking lt t dist bound q own) k x ≡ true) part) where
+    module _ (part rest : List (Item D)) (e : in_turn (asking lt t dist bound q own) ≡ part ++ rest) (h : AllByRecursion (λ x. passes (asking lt t dist bound q own) k x ≡ true) part) where
       pub part-labels : sorted (closer (ranking lt dist bound) q) (candidates (ranking lt dist bound) q k (others own (plan t))) ≡ labels_of part ++ labels_of (filter (passes (asking lt t dist bound q own) k) rest)
       part-labels = sym labels-passing ∙ ap labels_of (kept-part (asking lt t dist bound q own) k part rest e h) ∙ joined-append _ part (filter (passes (asking lt t dist bound q own) k) rest)
 

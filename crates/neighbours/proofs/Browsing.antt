@@ -1,6 +1,6 @@
 -- A query walks through exactly the items than which fewer than k labels are nearer.
 use Rattle.std.proofs.Common.{◌≡◌, ℕ, ◌-◌, ◌<◌, ◌≤◌, Bool, true, false, cond, not, ◌&&◌, ltb, List, [], ◌∷◌, ◌++◌, map, length, filter, sym, refl, ap, ◌∙◌, subst, ⊎_elim, arith}
-use Rattle.std.specs.List.{flat_map, AllByRecursion as All}
+use Rattle.std.specs.List.{flat_map, AllByRecursion}
 use Rattle.std.proofs.lemmas.List.{append-nil, append_assoc, map-append, length-map, take_at, drop_at, drop_all, drop_more, get_or_past}
 use Rattle.std.proofs.lemmas.List.Elements.{filter-append}
 use Rattle.std.proofs.ByRecursion.{All-append, All-weaker, All-take, All-drop, All-map, all_kept_by}
@@ -46,13 +46,13 @@ abbrev pub in_turn : {D : Type 0} → Scene D → List (Item D)
 in_turn s = sorted (ahead s.lt) (all_items s)
 
 module _ {X : Type 0} where
-  all-front : (P : X → Type 0) (xs ys : List X) → All P (xs ++ ys) → All P xs
-  all-front P xs ys h = subst (All P) (take_at xs ys (length xs) refl) (All-take P (length xs) (xs ++ ys) h)
+  all-front : (P : X → Type 0) (xs ys : List X) → AllByRecursion P (xs ++ ys) → AllByRecursion P xs
+  all-front P xs ys h = subst (AllByRecursion P) (take_at xs ys (length xs) refl) (All-take P (length xs) (xs ++ ys) h)
 
-  all_back : (P : X → Type 0) (xs ys : List X) → All P (xs ++ ys) → All P ys
-  all_back P xs ys h = subst (All P) (drop_at xs ys (length xs) refl) (All-drop P (length xs) (xs ++ ys) h)
+  all_back : (P : X → Type 0) (xs ys : List X) → AllByRecursion P (xs ++ ys) → AllByRecursion P ys
+  all_back P xs ys h = subst (AllByRecursion P) (drop_at xs ys (length xs) refl) (All-drop P (length xs) (xs ++ ys) h)
 
-  pub keeps-all : (p : X → Bool) (xs : List X) → All (λ x. p x ≡ true) xs → filter p xs ≡ xs
+  pub keeps-all : (p : X → Bool) (xs : List X) → AllByRecursion (λ x. p x ≡ true) xs → filter p xs ≡ xs
   keeps-all p [] h = refl
   keeps-all p (x ∷ xs) h = keeps p x xs h.0 ∙ ap (λ l. x ∷ l) (keeps-all p xs h.1)
 
@@ -101,15 +101,15 @@ module _ {D : Type 0} where
   unfolding dists
   dists-append xs ys = ap (map (λ x. x.distance)) (filter-append (λ x. not (is_node x)) xs ys) ∙ map-append (λ x. x.distance) (filter (λ x. not (is_node x)) xs) (filter (λ x. not (is_node x)) ys)
 
-  dists-nodes : (xs : List (Item D)) → All (λ x. is_node x ≡ true) xs → dists xs ≡ []
+  dists-nodes : (xs : List (Item D)) → AllByRecursion (λ x. is_node x ≡ true) xs → dists xs ≡ []
   unfolding dists
   dists-nodes xs h = ap (map (λ x. x.distance)) (keeps-none (λ x. not (is_node x)) xs (All-weaker (λ x. is_node x ≡ true) (λ x. not (is_node x) ≡ false) (λ x t. not_from_true (is_node x) t) xs h))
 
   -- nodes leave them as they are
-  pub dists-past : (gone front : List (Item D)) → All (λ x. is_node x ≡ true) front → dists (gone ++ front) ≡ dists gone
+  pub dists-past : (gone front : List (Item D)) → AllByRecursion (λ x. is_node x ≡ true) front → dists (gone ++ front) ≡ dists gone
   dists-past gone front h = dists-append gone front ∙ ap (λ l. dists gone ++ l) (dists-nodes front h) ∙ append-nil (dists gone)
 
-  all-dists : (P : D → Type 0) (xs : List (Item D)) → All (λ x. P x.distance) xs → All P (dists xs)
+  all-dists : (P : D → Type 0) (xs : List (Item D)) → AllByRecursion (λ x. P x.distance) xs → AllByRecursion P (dists xs)
   unfolding dists
   all-dists P xs h = All-map P (λ (x : Item D). x.distance) (filter (λ x. not (is_node x)) xs) (all_kept_by (λ x. not (is_node x)) (λ x. P x.distance) xs h)
 
@@ -123,7 +123,7 @@ module _ {D : Type 0} where
         let labels = filter (λ (z : Item D). not (is_node z)) gone in
         cond_both (not (is_node y)) (y ∷ labels) labels (λ l. Ascending lt (map (λ z. z.distance) l ++ x.distance ∷ [])) (λ t. (here, rising gone x rest h.1)) (λ f. rising gone x rest h.1)
 
-    pub nodes : (limit : Limit D) (front : List (Item D)) → Passes lt limit front → All (λ x. is_node x ≡ true) front
+    pub nodes : (limit : Limit D) (front : List (Item D)) → Passes lt limit front → AllByRecursion (λ x. is_node x ≡ true) front
     nodes limit front h = All-weaker (λ x. (is_node x ≡ true) × (admits lt limit x.distance ≡ true)) (λ x. is_node x ≡ true) (λ x e. e.0) front h
 
     no-nearer : (x y : Item D) → ahead lt x y ≡ false → lt x.distance y.distance ≡ false
@@ -154,7 +154,7 @@ module _ {D : Type 0} (s : Scene D) (fair : Fair s) where
   nearer-dists d = sym (count-labels s (λ x. s.lt x.distance d)) ∙ sym (count-dists (λ e. s.lt e d) (in_turn s))
 
   -- what comes from x on is no nearer than x
-  from_on : (gone : List (Item D)) (x : Item D) (rest : List (Item D)) → in_turn s ≡ gone ++ x ∷ rest → All (λ y. s.lt y.distance x.distance ≡ false) (x ∷ rest)
+  from_on : (gone : List (Item D)) (x : Item D) (rest : List (Item D)) → in_turn s ≡ gone ++ x ∷ rest → AllByRecursion (λ y. s.lt y.distance x.distance ≡ false) (x ∷ rest)
   from_on gone x rest e = (fair.order.never x.distance, (behind gone (subst (Ascending _) e in-turn-rises)).0)
     where
       behind : (ys : List (Item D)) → Ascending (λ a b. s.lt a.distance b.distance) (ys ++ x ∷ rest) → Ascending (λ a b. s.lt a.distance b.distance) (x ∷ rest)
@@ -188,7 +188,7 @@ module _ {D : Type 0} (s : Scene D) (fair : Fair s) where
         farther y h = let m = nearer-more x.distance y.distance h in grind (arith, nat_tests)
 
     -- nodes that the limit admits pass
-    front-passes : (gone front rest : List (Item D)) → in_turn s ≡ gone ++ (front ++ rest) → Passes s.lt (limit_of k (dists gone)) front → All (λ x. passes s k x ≡ true) front
+    front-passes : (gone front rest : List (Item D)) → in_turn s ≡ gone ++ (front ++ rest) → Passes s.lt (limit_of k (dists gone)) front → AllByRecursion (λ x. passes s k x ≡ true) front
     front-passes gone [] rest e h = tt
     front-passes gone (x ∷ front) rest e h = (
       sym (decision gone x (front ++ rest) e) ∙ h.0.1,
@@ -197,16 +197,16 @@ module _ {D : Type 0} (s : Scene D) (fair : Fair s) where
     )
 
     -- the walk goes on to one more item, or it stops
-    module _ (gone before front rest : List (Item D)) (so_far : All (λ x. passes s k x ≡ true) gone) (all : in_turn s ≡ gone ++ before) (front-in : Passes s.lt (limit_of k (dists gone)) front) where
+    module _ (gone before front rest : List (Item D)) (so_far : AllByRecursion (λ x. passes s k x ≡ true) gone) (all : in_turn s ≡ gone ++ before) (front-in : Passes s.lt (limit_of k (dists gone)) front) where
       at-limit : (x : Item D) (more : List (Item D)) → before ≡ front ++ x ∷ more → admits s.lt (limit_of k (dists gone)) x.distance ≡ passes s k x
       at-limit x more e = ap (λ ds. admits s.lt (limit_of k ds) x.distance) (sym (dists-past gone front (nodes s.lt (limit_of k (dists gone)) front front-in)))
           ∙ decision (gone ++ front) x more (all ∙ ap (λ l. gone ++ l) e ∙ sym (append_assoc gone front (x ∷ more)))
 
-      walked : (more : List (Item D)) → before ≡ front ++ more → All (λ x. passes s k x ≡ true) (gone ++ front)
+      walked : (more : List (Item D)) → before ≡ front ++ more → AllByRecursion (λ x. passes s k x ≡ true) (gone ++ front)
       walked more e = All-append (λ x. passes s k x ≡ true) gone front so_far (front-passes gone front more (all ∙ ap (λ l. gone ++ l) e) front-in)
 
-      pub more-passes : (x : Item D) → before ≡ front ++ x ∷ rest → admits s.lt (limit_of k (dists gone)) x.distance ≡ true → All (λ x. passes s k x ≡ true) (gone ++ (front ++ x ∷ []))
-      more-passes x e h = subst (All (λ x. passes s k x ≡ true)) (append_assoc gone front (x ∷ []))
+      pub more-passes : (x : Item D) → before ≡ front ++ x ∷ rest → admits s.lt (limit_of k (dists gone)) x.distance ≡ true → AllByRecursion (λ x. passes s k x ≡ true) (gone ++ (front ++ x ∷ []))
+      more-passes x e h = subst (AllByRecursion (λ x. passes s k x ≡ true)) (append_assoc gone front (x ∷ []))
           (All-append (λ x. passes s k x ≡ true) (gone ++ front) (x ∷ []) (walked (x ∷ rest) e) (sym (at-limit x rest e) ∙ h, tt))
 
       pub more-gone : (x : Item D) → before ≡ front ++ x ∷ rest → in_turn s ≡ (gone ++ (front ++ x ∷ [])) ++ rest

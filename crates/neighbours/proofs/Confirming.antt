@@ -1,7 +1,7 @@
 -- The check of a candidate passes the nodes nearer than its end with fewer than k labels nearer than they are, and tells whether fewer than k labels are nearer than the end.
 use Rattle.std.proofs.Common.{◌≡◌, ℕ, ◌+◌, ◌<◌, ◌≤◌, Bool, true, false, cond, not, ◌&&◌, ltb, List, [], ◌∷◌, ◌++◌, map, length, take, Some, None, filter, Option, sym, refl, ap, ◌∙◌, subst, ⊎_elim, arith, length-append}
 use lib.ListN.{length-map}
-use Rattle.std.specs.List.{range_with_len, AllByRecursion as All}
+use Rattle.std.specs.List.{range_with_len, AllByRecursion}
 use Rattle.std.proofs.lemmas.List.{append_assoc}
 use Rattle.std.proofs.lemmas.List.Elements.{filter-append}
 use Rattle.std.proofs.ByRecursion.{All-push, All-weaker}
@@ -40,8 +40,8 @@ use Rattle.neighbours.proofs.Reaching.{ranks, in-reach-of}
 pub record Checked {D : Type 0} (s : Scene D) (e : D) (k i : ℕ) (rest : List (Item D)) (m n : ℕ) : Type 0 where
   pub gone : List (Item D)
   pub split : sorted (ahead s.lt) (all_items s) ≡ gone ++ rest
-  pub near : All (λ x. s.lt x.distance e ≡ true) gone
-  pub few : All (λ x. is_node x ≡ true → ltb (nearer_in s x.distance) k ≡ true) gone
+  pub near : AllByRecursion (λ x. s.lt x.distance e ≡ true) gone
+  pub few : AllByRecursion (λ x. is_node x ≡ true → ltb (nearer_in s x.distance) k ≡ true) gone
   pub came : i ≡ length (filter (λ x. not (is_node x)) gone)
   pub many : n ≡ m + length (filter is_node gone)
 
@@ -50,7 +50,7 @@ and-since true b h = h refl
 and-since false b h = refl
 
 module _ {X : Type 0} where
-  keeps-alike : (p q : X → Bool) (xs : List X) → All (λ x. p x ≡ q x) xs → filter p xs ≡ filter q xs
+  keeps-alike : (p q : X → Bool) (xs : List X) → AllByRecursion (λ x. p x ≡ q x) xs → filter p xs ≡ filter q xs
   keeps-alike p q [] h = refl
   keeps-alike p q (x ∷ xs) h = λ i. cond (h.0 i) (x ∷ keeps-alike p q xs h.1 i) (keeps-alike p q xs h.1 i)
 
@@ -68,7 +68,7 @@ module _ {X : Type 0} where
       (λ (e : p (f y) ≡ false). omega (arith, ap length (leaves p (f y) (map f ys) e), ap length (leaves (λ y. p (f y)) y ys e), count_map p f ys))
       (cases_Bool (p (f y)))
 
-  all-last : (P : X → Type 0) (xs ys : List X) → All P (xs ++ ys) → All P ys
+  all-last : (P : X → Type 0) (xs ys : List X) → AllByRecursion P (xs ++ ys) → AllByRecursion P ys
   all-last P [] ys h = h
   all-last P (x ∷ xs) ys h = all-last P xs ys h.1
 
@@ -78,10 +78,10 @@ module _ {X : Type 0} where
     rest-rises [] ys a = a
     rest-rises (x ∷ xs) ys a = rest-rises xs ys a.1
 
-    rest-behind : (xs ys : List X) → Ascending lt (xs ++ ys) → All (λ y. All (λ x. lt y x ≡ false) xs) ys
+    rest-behind : (xs ys : List X) → Ascending lt (xs ++ ys) → AllByRecursion (λ y. AllByRecursion (λ x. lt y x ≡ false) xs) ys
     rest-behind [] ys a = any ys
       where
-        any : (ys : List X) → All (λ y. Unit {0}) ys
+        any : (ys : List X) → AllByRecursion (λ y. Unit {0}) ys
         any [] = tt
         any (y ∷ ys) = (tt, any ys)
     rest-behind (x ∷ xs) ys a = all_both (λ y. lt y x ≡ false) _ ys (all-last _ xs ys a.0) (rest-behind xs ys a.1)
@@ -140,7 +140,7 @@ module _ {D : Type 0} (s : Scene D) (fair : Fair s) where
     count-split p = ap (λ l. length (filter p l)) split ∙ count-parts p gone rest
 
     -- where the rest is no nearer, no more labels are nearer than there are in the first part
-    at_most : (d : D) → All (λ y. s.lt y.distance d ≡ false) rest → nearer_in s d ≤ length (filter (labelled s) gone)
+    at_most : (d : D) → AllByRecursion (λ y. s.lt y.distance d ≡ false) rest → nearer_in s d ≤ length (filter (labelled s) gone)
     at_most d h = omega (
       arith,
       count-labels s d,
@@ -150,7 +150,7 @@ module _ {D : Type 0} (s : Scene D) (fair : Fair s) where
     )
 
     -- where the labels of the first part are nearer, at least as many are
-    at_least : (d : D) → All (λ x. labelled s x ≡ true → s.lt x.distance d ≡ true) gone → length (filter (labelled s) gone) ≤ nearer_in s d
+    at_least : (d : D) → AllByRecursion (λ x. labelled s x ≡ true → s.lt x.distance d ≡ true) gone → length (filter (labelled s) gone) ≤ nearer_in s d
     at_least d h = omega (
       arith,
       count-labels s d,
@@ -159,8 +159,8 @@ module _ {D : Type 0} (s : Scene D) (fair : Fair s) where
     )
 
     -- where the nodes of the first part are counted and those of the rest are not
-    walked : (e : D) (k : ℕ) → All (λ x. s.lt x.distance e ≡ true) gone → All (λ x. is_node x ≡ true → ltb (nearer_in s x.distance) k ≡ true) gone
-        → All (λ y. near_node s e k y ≡ false) rest → nodes_before s e k ≡ length (filter is_node gone)
+    walked : (e : D) (k : ℕ) → AllByRecursion (λ x. s.lt x.distance e ≡ true) gone → AllByRecursion (λ x. is_node x ≡ true → ltb (nearer_in s x.distance) k ≡ true) gone
+        → AllByRecursion (λ y. near_node s e k y ≡ false) rest → nodes_before s e k ≡ length (filter is_node gone)
     walked e k near few h = omega (
       arith,
       count-nodes s e k,
@@ -179,7 +179,7 @@ module _ {D : Type 0} (s : Scene D) (fair : Fair s) where
       past-node x rest c l t h =
           let g = c.gone in
           let a = rest-rises _ g (x ∷ rest) (rises g (x ∷ rest) c.split) in
-          let later : All (λ y. s.lt y.distance x.distance ≡ false) (x ∷ rest) = (fair.order.never x.distance, All-weaker _ _ (λ y. no-nearer s.lt y x) rest a.0) in
+          let later : AllByRecursion (λ y. s.lt y.distance x.distance ≡ false) (x ∷ rest) = (fair.order.never x.distance, All-weaker _ _ (λ y. no-nearer s.lt y x) rest a.0) in
           record {
             gone = g ++ x ∷ [];
             split = c.split ∙ sym (append_assoc g (x ∷ []) rest);
@@ -206,7 +206,7 @@ module _ {D : Type 0} (s : Scene D) (fair : Fair s) where
     past-nodes {i} {m} n (x ∷ front) rest c l h = subst (Checked s e k i rest m) (omega arith) (past-nodes (n + 1) front rest (past-node x (front ++ rest) c l h.0.0 h.0.1) l h.1)
 
     -- where a walk stops all is as far as the end
-    stopped : (gone rest : List (Item D)) → all s ≡ gone ++ rest → Stops s.lt (Before e) rest → All (λ y. s.lt y.distance e ≡ false) rest
+    stopped : (gone rest : List (Item D)) → all s ≡ gone ++ rest → Stops s.lt (Before e) rest → AllByRecursion (λ y. s.lt y.distance e ≡ false) rest
     stopped gone [] split h = tt
     stopped gone (x ∷ rest) split h =
         let a = rest-rises _ gone (x ∷ rest) (rises gone (x ∷ rest) split) in
@@ -234,12 +234,12 @@ module _ {D : Type 0} (s : Scene D) (fair : Fair s) where
     pub stops-full : {m n : ℕ} {rest : List (Item D)} → Checked s e k k rest m n → (ltb (nearer_in s e) k ≡ false) × (n ≡ m + nodes_before s e k)
     stops-full {m} {n} {rest} c =
         let g = c.gone in
-        let beyond : All (λ y. near_node s e k y ≡ false) rest = All-weaker _ _ (λ y h. none y h) rest (rest-behind (ahead s.lt) g rest (rises g rest c.split)) in (
+        let beyond : AllByRecursion (λ y. near_node s e k y ≡ false) rest = All-weaker _ _ (λ y h. none y h) rest (rest-behind (ahead s.lt) g rest (rises g rest c.split)) in (
           le-ltb _ k (omega (arith, c.came, at_least g rest c.split e (All-weaker _ _ (λ x t u. t) g c.near))),
           omega (arith, c.many, walked g rest c.split e k c.near c.few beyond),
         )
       where
-        none : (y : Item D) → All (λ x. ahead s.lt y x ≡ false) c.gone → near_node s e k y ≡ false
+        none : (y : Item D) → AllByRecursion (λ x. ahead s.lt y x ≡ false) c.gone → near_node s e k y ≡ false
         none y h = ⊎_elim
             (λ (t : is_node y ≡ true). and_right (is_node y) _ (and_right (s.lt y.distance e) _ (le-ltb (nearer_in s y.distance) k (omega (arith, c.came, at_least c.gone rest c.split y.distance (All-weaker _ _ (λ x f u. label-nearer s.lt y x f t u) c.gone h))))))
             (λ (f : is_node y ≡ false). and_left _ _ f)

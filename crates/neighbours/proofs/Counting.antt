@@ -1,6 +1,6 @@
 -- Lists of numbers in which every number occurs equally often hold the same numbers.
 use Rattle.std.proofs.Common.{◌≡◌, ℕ, zero, suc, ◌+◌, ◌<◌, ◌≤◌, true, false, eqb, ltb, List, [], ◌∷◌, map, length, filter, sym, refl, ap, ◌∙◌, ⊎_elim, arith}
-use Rattle.std.specs.List.{range_with_len, AllByRecursion as All}
+use Rattle.std.specs.List.{range_with_len, AllByRecursion}
 use Rattle.std.proofs.ByRecursion.{All-weaker}
 use Rattle.std.proofs.lemmas.Bool.{cases_Bool, cases_eq, cases_order, ltb-false, ne_eqb, eq-eqb}
 use Rattle.queue.specs.Order.{sorted}
@@ -18,11 +18,11 @@ occurs-first n ns = ap length (keeps (λ m. eqb m n) n ns (eq-eqb n n refl))
 pub occurs-past : (n m : ℕ) (ns : List ℕ) → (m ≡ n → ⊥) → occurs n (m ∷ ns) ≡ occurs n ns
 occurs-past n m ns u = ap length (leaves (λ k. eqb k n) m ns (ne_eqb m n u))
 
-pub occurs-none : (n : ℕ) (ns : List ℕ) → All (λ m. m ≡ n → ⊥) ns → occurs n ns ≡ 0
+pub occurs-none : (n : ℕ) (ns : List ℕ) → AllByRecursion (λ m. m ≡ n → ⊥) ns → occurs n ns ≡ 0
 occurs-none n ns h = ap length (keeps-none (λ m. eqb m n) ns (All-weaker _ (λ m. eqb m n ≡ false) (λ m u. ne_eqb m n u) ns h))
 
 -- the first of a list in order is the least
-not-before : (n m : ℕ) (ns : List ℕ) → n < m → All (λ k. ltb k m ≡ false) ns → occurs n (m ∷ ns) ≡ 0
+not-before : (n m : ℕ) (ns : List ℕ) → n < m → AllByRecursion (λ k. ltb k m ≡ false) ns → occurs n (m ∷ ns) ≡ 0
 not-before n m ns l h = occurs-none n (m ∷ ns) ((λ e. omega arith), All-weaker _ (λ k. k ≡ n → ⊥) (λ k f e. omega (arith, ltb-false k m f)) ns h)
 
 -- the same first, and then

@@ -1,6 +1,6 @@
 -- Of any two labels of a plan each answers the other or neither does.
 use Rattle.std.proofs.Common.{◌≡◌, ℕ, zero, suc, ◌+◌, Bool, true, false, cond, not, ◌&&◌, ◌||◌, eqb, ltb, List, [], ◌∷◌, map, length, Some, filter, sym, refl, ap, ◌∙◌, subst, ⊎_elim, arith}
-use Rattle.std.specs.List.{ContainsAt as Has, AllByRecursion as All}
+use Rattle.std.specs.List.{ContainsAt as Has, AllByRecursion}
 use Rattle.std.proofs.lemmas.Bool.{cases_Bool, both_ways, cond_both, not-false, eq-eqb, or_left}
 use Rattle.std.proofs.ByRecursion.{all-has, All-weaker, all_kept_by}
 use Rattle.std.proofs.lemmas.Bool.Decides.{nat_tests}
@@ -38,7 +38,7 @@ kept-swap : {X : Type 0} (f g : X → Bool) (xs : List X) → filter f (filter g
 kept-swap f g xs = kept-twice f g xs ∙ ap (λ (t : _ → Bool). filter t xs) (λ i x. and-swap (g x) (f x) i) ∙ sym (kept-twice g f xs)
 
 -- a test that passes none of what another leaves out
-kept_less : {X : Type 0} (f g : X → Bool) (xs : List X) → All (λ x. g x ≡ false → f x ≡ false) xs → filter f (filter g xs) ≡ filter f xs
+kept_less : {X : Type 0} (f g : X → Bool) (xs : List X) → AllByRecursion (λ x. g x ≡ false → f x ≡ false) xs → filter f (filter g xs) ≡ filter f xs
 kept_less f g [] h = refl
 kept_less f g (x ∷ xs) h = ⊎_elim
     (λ (t : g x ≡ true). ap (filter f) (keeps g x xs t) ∙ ap (λ l. cond (f x) (x ∷ l) l) (kept_less f g xs h.1))
@@ -58,7 +58,7 @@ among-in-order f n ls = gathered f (λ l b. eqb l.number n || b) (λ ls. among n
     swap false true c = refl
     swap false false c = refl
 
-among_none : (n : ℕ) (ls : List Label) → All (λ l. eqb l.number n ≡ false) ls → among n (numbers ls) ≡ false
+among_none : (n : ℕ) (ls : List Label) → AllByRecursion (λ l. eqb l.number n ≡ false) ls → among n (numbers ls) ≡ false
 among_none n [] h = refl
 among_none n (l ∷ ls) h = ap (λ b. b || among n (numbers ls)) h.0 ∙ among_none n ls h.1
 
@@ -67,7 +67,7 @@ module _ (p : Label) where
   others-differ : (l : Label) (ls : List Label) → present l.number ls ≡ false → Has ls p → eqb l.number p.number ≡ false
   others-differ l ls h m = let e = all-has (λ k. eqb k.number l.number ≡ false) ls p (absent-all l.number ls h) m in grind (arith, nat_tests)
 
-  only : (ls : List Label) → distinct ls ≡ true → Has ls p → All (λ l. eqb l.number p.number ≡ true → l ≡ p) ls
+  only : (ls : List Label) → distinct ls ≡ true → Has ls p → AllByRecursion (λ l. eqb l.number p.number ≡ true → l ≡ p) ls
   only [] d h = tt
   only (l ∷ ls) d (zero, in', here) =
       let e = distinct-parts l ls d in (
@@ -126,7 +126,7 @@ module _ (near : Ranking) where
         let nearer : Label → Bool = λ l. near q.place (spot l.place) (spot p.place) in
         let not-p : Label → Bool = λ l. not (eqb l.number p.number) in
         let not-q : Label → Bool = λ l. not (eqb l.number q.number) in
-        let none : All (λ l. not-p l ≡ false → nearer l ≡ false) ls = All-weaker (λ l. eqb l.number p.number ≡ true → l ≡ p) (λ l. not-p l ≡ false → nearer l ≡ false)
+        let none : AllByRecursion (λ l. not-p l ≡ false → nearer l ≡ false) ls = All-weaker (λ l. eqb l.number p.number ≡ true → l ≡ p) (λ l. not-p l ≡ false → nearer l ≡ false)
         (λ l same e. ap nearer (same (not-false _ e)) ∙ never q.place (spot p.place)) ls (only p ls d h) in
         ap length (sym (kept_less nearer not-p (filter not-q ls) (all_kept_by not-q _ ls none)) ∙ ap (filter nearer) (kept-swap not-p not-q ls))
 

@@ -1,6 +1,6 @@
 -- The reaches in the terms of a search: a box is in reach when fewer than k labels are nearer than its near bound.
 use Rattle.std.proofs.Common.{◌≡◌, ℕ, suc, ◌<◌, ◌≤◌, Bool, true, false, cond, not, ◌&&◌, ltb, leb, ◌⊎◌, List, [], ◌∷◌, length, Some, None, filter, sym, refl, ap, ◌∙◌, subst, inl, inr, ⊎_elim, arith}
-use Rattle.std.specs.List.{ContainsAt as Has, AllByRecursion as All}
+use Rattle.std.specs.List.{ContainsAt as Has, AllByRecursion}
 use Rattle.std.proofs.lemmas.Bool.{cases_Bool, cases_lt, both_ways, cond-true, cond-false, lt-ltb, le-ltb, le-leb, leb-true, not-true, not_from_false}
 use Rattle.std.proofs.ByRecursion.{all-has, All-weaker, all_kept_by, kept_by_passes}
 use Rattle.std.proofs.lemmas.Bool.Decides.{nat_tests}
@@ -37,7 +37,7 @@ back r = record { one_way = λ a b. r.one_way b a; chain-not = λ a b c h k. r.c
 
 -- the least is in the list, and none of the list is before it
 abbrev Least : {X : Type 0} → (X → X → Bool) → List X → X → Type 0
-Least lt xs t = (least lt xs ≡ Some t) × Has xs t × All (λ u. lt u t ≡ false) xs
+Least lt xs t = (least lt xs ≡ Some t) × Has xs t × AllByRecursion (λ u. lt u t ≡ false) xs
 
 has-later : {X : Type 0} (x : X) (xs : List X) (t : X) → Has xs t → Has (x ∷ xs) t
 has-later x xs t h = (suc h.0, omega (arith, h.1), h.2)
@@ -54,15 +54,15 @@ least_more {lt = lt} r x (y ∷ ys) =
     (cases_Bool (lt t x))
 
 -- what passes is told of all
-all-kept-back : {X : Type 0} (p : X → Bool) (P : X → Type 0) (xs : List X) → All P (filter p xs) → All (λ x. p x ≡ true → P x) xs
+all-kept-back : {X : Type 0} (p : X → Bool) (P : X → Type 0) (xs : List X) → AllByRecursion P (filter p xs) → AllByRecursion (λ x. p x ≡ true → P x) xs
 all-kept-back p P [] h = tt
 all-kept-back p P (x ∷ xs) h = ⊎_elim
-    (λ (t : p x ≡ true). let g = subst (All P) (keeps p x xs t) h in ((λ e. g.0), all-kept-back p P xs g.1))
-    (λ (f : p x ≡ false). ((λ e. absurd (both_ways (p x) f e)), all-kept-back p P xs (subst (All P) (leaves p x xs f) h)))
+    (λ (t : p x ≡ true). let g = subst (AllByRecursion P) (keeps p x xs t) h in ((λ e. g.0), all-kept-back p P xs g.1))
+    (λ (f : p x ≡ false). ((λ e. absurd (both_ways (p x) f e)), all-kept-back p P xs (subst (AllByRecursion P) (leaves p x xs f) h)))
     (cases_Bool (p x))
 
 -- if what p keeps passes q, then q keeps as much
-keeps-as-much : {X : Type 0} (p q : X → Bool) (xs : List X) → All (λ x. p x ≡ true → q x ≡ true) xs → length (filter p xs) ≤ length (filter q xs)
+keeps-as-much : {X : Type 0} (p q : X → Bool) (xs : List X) → AllByRecursion (λ x. p x ≡ true → q x ≡ true) xs → length (filter p xs) ≤ length (filter q xs)
 keeps-as-much p q [] h = omega arith
 keeps-as-much p q (x ∷ xs) h =
     let more = keeps-as-much p q xs h.1 in
@@ -100,7 +100,7 @@ module _ {X Y : Type 0} {f : Y → Y → Bool} (r : Ranks f) (key : X → Y) (xs
         u,
         far.1.1,
         keeps-as-much (λ y. f (key y) s) (λ y. not (f (key u) (key y))) xs
-            (All-weaker _ _ (λ y g t. not_from_false _ (g t)) xs (all-kept-back (λ y. f (key y) s) (λ y. f (key u) (key y) ≡ false) xs (subst (All (λ y. f (key u) (key y) ≡ false)) e far.1.2))),
+            (All-weaker _ _ (λ y g t. not_from_false _ (g t)) xs (all-kept-back (λ y. f (key y) s) (λ y. f (key u) (key y) ≡ false) xs (subst (AllByRecursion (λ y. f (key u) (key y) ≡ false)) e far.1.2))),
       )
 
   module _ (k : ℕ) where
@@ -108,7 +108,7 @@ module _ {X Y : Type 0} {f : Y → Y → Bool} (r : Ranks f) (key : X → Y) (xs
     passing = filter (λ t. leb k (up_to t)) xs
 
     -- if none of those up to which there are k is nearer than s, then fewer than k are
-    few : (s : Y) → 1 ≤ k → All (λ t. f (key t) s ≡ false) passing → nearer s < k
+    few : (s : Y) → 1 ≤ k → AllByRecursion (λ t. f (key t) s ≡ false) passing → nearer s < k
     few s one h = ⊎_elim (λ l. l)
         (λ (m : k ≤ nearer s).
         let near : X → Bool = λ y. f (key y) s in
@@ -120,7 +120,7 @@ module _ {X Y : Type 0} {f : Y → Y → Bool} (r : Ranks f) (key : X → Y) (xs
         (cases_lt (nearer s) k)
 
     -- a least of those up to which there are k is nearer than s exactly when k are
-    tells-few : (s : Y) (t : X) → 1 ≤ k → Has passing t → All (λ u. f (key u) (key t) ≡ false) passing → not (f (key t) s) ≡ ltb (nearer s) k
+    tells-few : (s : Y) (t : X) → 1 ≤ k → Has passing t → AllByRecursion (λ u. f (key u) (key t) ≡ false) passing → not (f (key t) s) ≡ ltb (nearer s) k
     tells-few s t one h a = ⊎_elim
         (λ (e : f (key t) s ≡ true).
         let many = leb-true k (up_to t) (all-has (λ u. leb k (up_to u) ≡ true) passing t (kept_by_passes (λ u. leb k (up_to u)) xs) h) in
@@ -154,7 +154,7 @@ module _ (near : Ranking) where
   pub in_reach-counts : (a : Place) → Ranks (near a) → (k : ℕ) (ls : List Label) (b : Rect) → 1 ≤ k → in_reach near a k ls b ≡ ltb (nearer_than near a (area b) ls) k
   unfolding in_reach kth no_farther nearer_than
   in_reach-counts a r k ls b one = ⊎_elim
-      (λ e. ap (at_most near a (area b)) e.1 ∙ sym (lt-ltb _ k (few r placed ls k (area b) one (subst (All (λ t. near a (placed t) (area b) ≡ false)) (sym e.0) tt))))
+      (λ e. ap (at_most near a (area b)) e.1 ∙ sym (lt-ltb _ k (few r placed ls k (area b) one (subst (AllByRecursion (λ t. near a (placed t) (area b) ≡ false)) (sym e.0) tt))))
       (λ e. ap (at_most near a (area b)) e.1.0 ∙ tells-few r placed ls k (area b) e.0 one e.1.1 e.1.2)
       (least-tells (by r placed) (passing r placed ls k))
 

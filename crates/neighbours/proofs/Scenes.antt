@@ -1,6 +1,6 @@
 -- The tree of a lawful table hangs together, and what one turn of a search over it leaves.
 use Rattle.std.proofs.Common.{◌≡◌, ℕ, suc, ◌+◌, ◌-◌, ◌<◌, ◌≤◌, Bool, true, false, List, [], ◌∷◌, ◌++◌, length, take, sym, refl, ap, ◌∙◌, subst, arith, length-append}
-use Rattle.std.specs.List.{AllByRecursion as All}
+use Rattle.std.specs.List.{AllByRecursion}
 use Rattle.std.proofs.lemmas.List.{append-nil, length-take-le}
 use Rattle.std.proofs.ByRecursion.{All-get_or, All-weaker}
 use Rattle.std.proofs.lemmas.Bool.{cond-false, cond_both, le-ltb}
@@ -46,16 +46,16 @@ later lt x y h k = cond-false (lt y.distance x.distance) _ _ h ∙ cond_both (lt
 module _ {D : Type 0} (s : Scene D) where
   -- a node of the table, whose slots lie in its box
   abbrev Led : ℕ × Rect → Type 0
-  Led c = (c.0 < node_count s.table) × All (λ t. lies_in c.1 t ≡ true) (node_at s.table c.0)
+  Led c = (c.0 < node_count s.table) × AllByRecursion (λ t. lies_in c.1 t ≡ true) (node_at s.table c.0)
 
   abbrev SlotFits : ℕ → Rect → Slot → Type 0
-  SlotFits n b t = (lies_in b t ≡ true) × All (λ c. (n < c.0) × Led c) (branch_in t)
+  SlotFits n b t = (lies_in b t ≡ true) × AllByRecursion (λ c. (n < c.0) × Led c) (branch_in t)
 
   -- of the item of a slot of node n, with box b
   of-slot : (P : Item D → Type 0) (n : ℕ) (b : Rect) → ((c : ℕ × Rect) → covering b c.1 ≡ true → n < c.0 → Led c → P (node_item s.near c)) → ((l : Label) → holds b l.place ≡ true → P (label_item s.to l))
-      → (t : Slot) → SlotFits n b t → All P (listed (item_of s.to s.near s.view t))
+      → (t : Slot) → SlotFits n b t → AllByRecursion P (listed (item_of s.to s.near s.view t))
   of-slot P n b f g Empty h = tt
-  of-slot P n b f g (Holds l) h = cond_both (shows s.view l.number) _ _ (λ o. All P (listed o)) (λ e. (g l h.0, tt)) (λ e. tt)
+  of-slot P n b f g (Holds l) h = cond_both (shows s.view l.number) _ _ (λ o. AllByRecursion P (listed o)) (λ e. (g l h.0, tt)) (λ e. tt)
   of-slot P n b f g (Leads c k) h = (f (k, c) h.0 h.1.0.0 h.1.0.1, tt)
 
 module _ {D : Type 0} (s : Scene D) (fair : Fair s) where
@@ -63,34 +63,34 @@ module _ {D : Type 0} (s : Scene D) (fair : Fair s) where
   order = item-order fair.order
 
   -- the slots of a node of the table
-  slots-fit : (n : ℕ) (b : Rect) → n < node_count s.table → All (λ t. lies_in b t ≡ true) (node_at s.table n) → All (SlotFits s n b) (node_at s.table n)
+  slots-fit : (n : ℕ) (b : Rect) → n < node_count s.table → AllByRecursion (λ t. lies_in b t ≡ true) (node_at s.table n) → AllByRecursion (SlotFits s n b) (node_at s.table n)
   unfolding branches branches_in
   slots-fit n b h lies =
       let t = s.table in
-      let Q : ℕ × Rect → Type 0 = λ c. All (λ s. lies_in c.1 s ≡ true) (node_at t c.0) in
-      let inside = All-get_or (λ slots. All Q (branches_in slots)) t.nodes n [] h (joined-parts branches_in Q t.nodes fair.lawful.inside.1) in
+      let Q : ℕ × Rect → Type 0 = λ c. AllByRecursion (λ s. lies_in c.1 s ≡ true) (node_at t c.0) in
+      let inside = All-get_or (λ slots. AllByRecursion Q (branches_in slots)) t.nodes n [] h (joined-parts branches_in Q t.nodes fair.lawful.inside.1) in
       let down = all_both _ Q (branches_in (node_at t n)) (fair.lawful.down n h) inside in
       let led = All-weaker _ (λ c. (n < c.0) × Led s c) (λ c f. (f.0.0, (f.0.1, f.1))) (branches_in (node_at t n)) down in
       all_both (λ t. lies_in b t ≡ true) _ (node_at t n) lies (joined-parts branch_in _ (node_at t n) led)
 
   -- of the items right below a good one
   of-kids : (P : Item D → Type 0) (d : D) (n : ℕ) → (g : GoodAs s d (OfNode n)) → ((c : ℕ × Rect) → covering g.0 c.1 ≡ true → n < c.0 → Led s c → P (node_item s.near c)) → ((l : Label) → holds g.0 l.place ≡ true → P (label_item s.to l))
-      → All P (under s (OfNode n))
+      → AllByRecursion P (under s (OfNode n))
   unfolding items_in
   of-kids P d n g f h = all-joined _ P (node_at s.table n) (SlotFits s n g.0) (of-slot s P n g.0 f h) (slots-fit n g.0 g.2 g.3)
 
-  lower-under : (d : D) (u : Subject) → GoodAs s d u → All (λ y. height s y < height_of (node_count s.table) u) (under s u)
+  lower-under : (d : D) (u : Subject) → GoodAs s d u → AllByRecursion (λ y. height s y < height_of (node_count s.table) u) (under s u)
   unfolding height
   lower-under d (OfNode n) g = of-kids (λ y. height s y < suc (node_count s.table - n)) d n g (λ c e m led. omega (arith, led.0)) (λ l e. omega arith)
   lower-under d (OfLabel l) g = tt
 
-  after-under : (x : Item D) (u : Subject) → x.subject ≡ u → GoodAs s x.distance u → All (λ y. ahead s.lt y x ≡ false) (under s u)
+  after-under : (x : Item D) (u : Subject) → x.subject ≡ u → GoodAs s x.distance u → AllByRecursion (λ y. ahead s.lt y x ≡ false) (under s u)
   after-under x (OfNode n) e g = of-kids (λ y. ahead s.lt y x ≡ false) x.distance n g
       (λ c i m led. later s.lt x (node_item s.near c) (subst (λ d. s.lt (s.near c.1) d ≡ false) (sym g.1) (fair.inner g.0 c.1 i)) (subst (λ u. subject_before (OfNode c.0) u ≡ false) (sym e) (le-ltb c.0 n (omega arith))))
       (λ l i. later s.lt x (label_item s.to l) (subst (λ d. s.lt (s.to l.place) d ≡ false) (sym g.1) (fair.below l.place g.0 i)) (subst (λ u. subject_before (OfLabel l) u ≡ false) (sym e) refl))
   after-under x (OfLabel l) e g = tt
 
-  good-under : (d : D) (u : Subject) → GoodAs s d u → All (Good s) (under s u)
+  good-under : (d : D) (u : Subject) → GoodAs s d u → AllByRecursion (Good s) (under s u)
   unfolding Good
   good-under d (OfNode n) g = of-kids (Good s) d n g (λ c i m led. (c.1, refl, led.0, led.1)) (λ l i. tt)
   good-under d (OfLabel l) g = tt
@@ -129,7 +129,7 @@ module _ {D : Type 0} (s : Scene D) (fair : Fair s) where
 
   module _ {xs ys : List (Item D)} {len rest : ℕ} {x : Item D} (t : Taken s xs ys len rest x) where
     pub x-good : Good s x
-    x-good = (subst (All (Good s)) t.split t.waits.good).0
+    x-good = (subst (AllByRecursion (Good s)) t.split t.waits.good).0
 
     pub opened : left s (take len xs) ≡ x ∷ left s (take rest ys ++ kids s x)
     unfolding left
@@ -151,7 +151,7 @@ module _ {D : Type 0} (s : Scene D) (fair : Fair s) where
       waits-on = record {
         shape = shape';
         within = omega (arith, kids-room, t.long);
-        good = subst (All (Good s)) (sym pushed) (turn-good order hangs (take len xs) (take rest ys) x t.split t.waits.good);
+        good = subst (AllByRecursion (Good s)) (sym pushed) (turn-good order hangs (take len xs) (take rest ys) x t.split t.waits.good);
         room = omega (arith, ap length left-turn, t.waits.room);
       }
 

@@ -1,6 +1,6 @@
 -- A search that starts at the root comes to every item of the tree, once, and its work list has room.
 use Rattle.std.proofs.Common.{◌≡◌, ℕ, suc, ◌*◌, ◌<◌, ◌≤◌, Bool, true, false, cond, not, ◌&&◌, ltb, List, [], ◌∷◌, ◌++◌, map, length, take, Some, None, filter, Option, sym, refl, ap, ◌∙◌, subst, ⊎_elim, arith, length-append}
-use Rattle.std.specs.List.{range_with_len, flat_map, AllByRecursion as All}
+use Rattle.std.specs.List.{range_with_len, flat_map, AllByRecursion}
 use Rattle.std.proofs.lemmas.List.{append-nil}
 use Rattle.std.proofs.ByRecursion.{All-append, All-map, All-weaker, All-from_get_or}
 use Rattle.std.proofs.lemmas.List.FromFn.{fill_by_all}
@@ -40,12 +40,12 @@ unfolding shown others
 shown-kept v ls = kept-twice (λ l. not (left_out v.own l.number)) (λ l. not (left_out v.candidate l.number)) ls
 
 module _ (t : Table) (lawful : Lawful t) where
-  led-to : All (λ b. (0 < b.0) × (b.0 < node_count t)) (branches t)
+  led-to : AllByRecursion (λ b. (0 < b.0) × (b.0 < node_count t)) (branches t)
   unfolding branches
-  led-to = all-joined branches_in _ t.nodes (λ slots. All (λ b. (0 < b.0) × (b.0 < node_count t)) (branches_in slots)) (λ slots h. h)
+  led-to = all-joined branches_in _ t.nodes (λ slots. AllByRecursion (λ b. (0 < b.0) × (b.0 < node_count t)) (branches_in slots)) (λ slots h. h)
       (All-from_get_or _ t.nodes [] (λ i l. All-weaker _ (λ b. (0 < b.0) × (b.0 < node_count t)) (λ b h. (omega (arith, h.0), h.1)) (branches_in (node_at t i)) (lawful.down i l)))
 
-  pub boxed-within : All (λ b. b.0 < node_count t) (boxed t)
+  pub boxed-within : AllByRecursion (λ b. b.0 < node_count t) (boxed t)
   boxed-within = (omega (arith, lawful.some), All-weaker _ (λ b. b.0 < node_count t) (λ b h. h.1) (branches t) led-to)
 
   abbrev numbers : List ℕ
@@ -133,14 +133,14 @@ module _ {D : Type 0} (s : Scene D) (fair : Fair s) where
       ∙ joined-alike number-order (order s fair) kids_of (map (λ b. b.0) (boxed s.table)) (range_with_len 0 (node_count s.table)) (boxed-once s.table fair.lawful)
       ∙ ap (sorted lt) by_number ∙ slots_apart slots))
 
-  all-good : All (Good s) (all_items s)
+  all-good : AllByRecursion (Good s) (all_items s)
   unfolding all_items Good
   all-good = All-append (Good s) (map (node_item s.near) (boxed s.table)) _
       (All-map (Good s) (node_item s.near) (boxed s.table)
       (All-weaker _ _ (λ b h. (b.1, refl, h.0, h.1)) (boxed s.table) (all_both _ _ (boxed s.table) (boxed-within s.table fair.lawful) fair.lawful.inside)))
       (labels-good (shown s.view (plan s.table)))
     where
-      labels-good : (ls : List Label) → All (Good s) (map (label_item s.to) ls)
+      labels-good : (ls : List Label) → AllByRecursion (Good s) (map (label_item s.to) ls)
       labels-good [] = tt
       labels-good (l ∷ ls) = (tt, labels-good ls)
 
@@ -157,7 +157,7 @@ module _ {D : Type 0} (s : Scene D) (fair : Fair s) where
       at_most None = omega arith
       at_most (Some x) = omega arith
 
-  many-slots : (nodes : List (List Slot)) → All (λ n. length n ≡ 12) nodes → length (flat_map (λ n. n) nodes) ≡ 12 * length nodes
+  many-slots : (nodes : List (List Slot)) → AllByRecursion (λ n. length n ≡ 12) nodes → length (flat_map (λ n. n) nodes) ≡ 12 * length nodes
   many-slots [] h = refl
   many-slots (n ∷ nodes) h = omega (arith, length-append n (flat_map (λ n. n) nodes), h.0, many-slots nodes h.1)
 
@@ -186,6 +186,6 @@ module _ {D : Type 0} (s : Scene D) (fair : Fair s) where
     root-waits = record {
       shape = shape;
       within = omega (arith, room);
-      good = subst (All (Good s)) (sym pushed) (all-good.0, tt);
+      good = subst (AllByRecursion (Good s)) (sym pushed) (all-good.0, tt);
       room = omega (arith, room, ap length root-left, ap length whole, enough-room);
     }

@@ -1,6 +1,6 @@
 -- Trees of items, each of which leads to those right below it, and all items of a tree.
 use Rattle.std.specs.Prelude.{◌≡◌, ℕ, zero, suc, ◌<◌, Bool, false, List, [], ◌∷◌}
-use Rattle.std.specs.List.{flat_map, AllByRecursion as All}
+use Rattle.std.specs.List.{flat_map, AllByRecursion}
 use Rattle.queue.specs.Order.{insert, sorted}
 
 -- x and the items below it, as far as k levels
@@ -10,9 +10,9 @@ flatten below (suc k) x = x ∷ flat_map (λ y. flatten below k y) (below x)
 
 -- a good item leads to good items of a lower rank, none of which comes before it
 pub record Hangs {X : Type 0} (lt : X → X → Bool) (below : X → List X) (rank : X → ℕ) (Good : X → Type 0) : Type 0 where
-  pub lower : (x : X) → Good x → All (λ y. rank y < rank x) (below x)
-  pub after : (x : X) → Good x → All (λ y. lt y x ≡ false) (below x)
-  pub good : (x : X) → Good x → All Good (below x)
+  pub lower : (x : X) → Good x → AllByRecursion (λ y. rank y < rank x) (below x)
+  pub after : (x : X) → Good x → AllByRecursion (λ y. lt y x ≡ false) (below x)
+  pub good : (x : X) → Good x → AllByRecursion Good (below x)
 
 -- x and all items below it
 unfoldable pub tree : {X : Type 0} → (X → List X) → (X → ℕ) → X → List X

@@ -1,6 +1,6 @@
 -- The tree of a table as a search sees it from one place.
 use Rattle.std.specs.Prelude.{◌≡◌, ℕ, suc, ◌+◌, ◌-◌, ◌*◌, ◌<◌, ◌≤◌, Bool, true, cond, not, ◌&&◌, List, [], ◌∷◌, ◌++◌, map, length, take, pos, Some, None, Option}
-use Rattle.std.specs.List.{flat_map, AllByRecursion as All}
+use Rattle.std.specs.List.{flat_map, AllByRecursion}
 use Rattle.geometry.specs.declared.place.Place.{Place}
 use Rattle.geometry.specs.declared.rect.Rect.{Rect}
 use Rattle.geometry.specs.declared.label.Label.{Label}
@@ -79,7 +79,7 @@ height s x = height_of (node_count s.table) x.subject
 
 -- a node item is one of the table's nodes, at the near bound of a box that contains what is in its slots
 abbrev pub GoodAs : {D : Type 0} → Scene D → D → Subject → Type 0
-GoodAs s d (OfNode n) = (b : Rect) × (d ≡ s.near b) × (n < node_count s.table) × All (λ t. lies_in b t ≡ true) (node_at s.table n)
+GoodAs s d (OfNode n) = (b : Rect) × (d ≡ s.near b) × (n < node_count s.table) × AllByRecursion (λ t. lies_in b t ≡ true) (node_at s.table n)
 GoodAs s d (OfLabel l) = Unit {0}
 
 unfoldable pub Good : {D : Type 0} → Scene D → Item D → Type 0
@@ -109,5 +109,5 @@ work_places t = 1 + 12 * node_count t
 pub record Waiting {D : Type 0} (s : Scene D) (items : List (Item D)) (len : ℕ) : Type 0 where
   pub shape : Heap (ahead s.lt) items len
   pub within : len ≤ length items
-  pub good : All (Good s) (sorted (ahead s.lt) (take len items))
+  pub good : AllByRecursion (Good s) (sorted (ahead s.lt) (take len items))
   pub room : length (left s (take len items)) ≤ length items

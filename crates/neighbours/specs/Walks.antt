@@ -1,6 +1,6 @@
 -- How a search walks through the items of a tree, which come in order.
 use Rattle.std.specs.Prelude.{◌≡◌, ℕ, ◌+◌, Bool, true, false, ◌&&◌, List, [], ◌∷◌, ◌++◌, length, take, Some, None, filter, Option, nat_lt}
-use Rattle.std.specs.List.{AllByRecursion as All}
+use Rattle.std.specs.List.{AllByRecursion}
 use Rattle.geometry.specs.declared.label.Label.{Label}
 use Rattle.index.specs.Table.{plan, boxed}
 use Rattle.neighbours.specs.declared.arrival.Arrival.{Arrival}
@@ -26,7 +26,7 @@ Stops lt limit (x ∷ xs) = admits lt limit x.distance ≡ false
 
 -- nodes that the limit admits
 abbrev pub Passes : {D : Type 0} → (D → D → Bool) → Limit D → List (Item D) → Type 0
-Passes lt limit front = All (λ x. (is_node x ≡ true) × (admits lt limit x.distance ≡ true)) front
+Passes lt limit front = AllByRecursion (λ x. (is_node x ≡ true) × (admits lt limit x.distance ≡ true)) front
 
 -- a label at a distance, as an item
 abbrev pub found : {D : Type 0} → D → Label → Item D

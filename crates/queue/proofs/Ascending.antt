@@ -1,7 +1,7 @@
 -- A sorted list rises, and sorting keeps what a test keeps.
 use Rattle.std.proofs.Common.{◌≡◌, suc, Bool, true, false, cond, List, [], ◌∷◌, length, filter, sym, refl, ap, ◌∙◌, subst, ⊎_elim}
 use Rattle.std.proofs.lemmas.Bool.{cases_Bool}
-use Rattle.std.specs.List.{AllByRecursion as All}
+use Rattle.std.specs.List.{AllByRecursion}
 use Rattle.queue.specs.Order.{Order, insert, sorted}
 use Rattle.queue.proofs.Keeping.{keeps, leaves}
 use Rattle.queue.proofs.Sorting.{insert-past, insert-here, chain-not, one_way, all_insert, least_first}
@@ -9,10 +9,10 @@ use Rattle.queue.proofs.Sorting.{insert-past, insert-here, chain-not, one_way, a
 -- none of the rest comes before the first, and so on
 abbrev pub Ascending : {X : Type 0} → (X → X → Bool) → List X → Type 0
 Ascending lt [] = Unit {0}
-Ascending lt (x ∷ xs) = All (λ y. lt y x ≡ false) xs × Ascending lt xs
+Ascending lt (x ∷ xs) = AllByRecursion (λ y. lt y x ≡ false) xs × Ascending lt xs
 
 module _ {X : Type 0} {lt : X → X → Bool} (o : Order lt) where
-  pub all_after : (x y : X) (zs : List X) → lt x y ≡ false → All (λ z. lt z x ≡ false) zs → All (λ z. lt z y ≡ false) zs
+  pub all_after : (x y : X) (zs : List X) → lt x y ≡ false → AllByRecursion (λ z. lt z x ≡ false) zs → AllByRecursion (λ z. lt z y ≡ false) zs
   all_after x y [] h a = tt
   all_after x y (z ∷ zs) h a = (chain-not o z x y a.0 h, all_after x y zs h a.1)
 
@@ -44,11 +44,11 @@ module _ {X : Type 0} {lt : X → X → Bool} (o : Order lt) where
 
   -- what a test keeps of a list in order
   module _ (p : X → Bool) where
-    all-kept : (P : X → Type 0) (ys : List X) → All P ys → All P (filter p ys)
+    all-kept : (P : X → Type 0) (ys : List X) → AllByRecursion P ys → AllByRecursion P (filter p ys)
     all-kept P [] h = tt
     all-kept P (y ∷ ys) h = ⊎_elim
-        (λ t. subst (All P) (sym (keeps p y ys t)) (h.0, all-kept P ys h.1))
-        (λ f. subst (All P) (sym (leaves p y ys f)) (all-kept P ys h.1))
+        (λ t. subst (AllByRecursion P) (sym (keeps p y ys t)) (h.0, all-kept P ys h.1))
+        (λ f. subst (AllByRecursion P) (sym (leaves p y ys f)) (all-kept P ys h.1))
         (cases_Bool (p y))
 
     insert-kept : (x : X) (ys : List X) → p x ≡ true → Ascending lt ys → filter p (insert lt x ys) ≡ insert lt x (filter p ys)

@@ -1,6 +1,6 @@
 -- What a test keeps of a list.
 use Rattle.std.proofs.Common.{◌≡◌, ◌≤◌, Bool, true, false, List, [], ◌∷◌, length, filter, refl, ap, ◌∙◌, ⊎_elim, arith}
-use Rattle.std.specs.List.{AllByRecursion as All}
+use Rattle.std.specs.List.{AllByRecursion}
 use Rattle.std.proofs.lemmas.Bool.{cases_Bool, cond-true, cond-false}
 
 module _ {X : Type 0} (p : X → Bool) where
@@ -10,7 +10,7 @@ module _ {X : Type 0} (p : X → Bool) where
   pub leaves : (x : X) (ys : List X) → p x ≡ false → filter p (x ∷ ys) ≡ filter p ys
   leaves x ys f = cond-false (p x) _ _ f
 
-  pub keeps-none : (ys : List X) → All (λ y. p y ≡ false) ys → filter p ys ≡ []
+  pub keeps-none : (ys : List X) → AllByRecursion (λ y. p y ≡ false) ys → filter p ys ≡ []
   keeps-none [] h = refl
   keeps-none (y ∷ ys) h = leaves y ys h.0 ∙ keeps-none ys h.1
 

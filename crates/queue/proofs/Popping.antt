@@ -4,7 +4,7 @@ use Rattle.std.proofs.lemmas.Bool.{cases_eq, cases_Bool, cond-true, cond-false}
 use Rattle.std.proofs.lemmas.Bool.Decides.{nat_tests}
 use Rattle.std.proofs.lemmas.List.{get_or-take, take_more, length-take-le}
 use Rattle.std.proofs.ByRecursion.{All-from_get_or}
-use Rattle.std.specs.List.{AllByRecursion as All}
+use Rattle.std.specs.List.{AllByRecursion}
 use Rattle.queue.specs.Order.{Order, insert, sorted}
 use Rattle.queue.specs.Shape.{Heap}
 use Rattle.queue.specs.Calls as calls
@@ -45,7 +45,7 @@ module _ {X : Type 0} {lt : X → X → Bool} (o : Order lt) where
   pops : (xs ys : List X) (n : ℕ) (x : X) → x ≡ get_or xs 0 x → n < length xs → length ys ≡ length xs → Swap xs ys 0 n → ((d : X) → ys ≡ set (set xs 0 (get_or xs n d)) n (get_or xs 0 d)) → Heap lt xs (n + 1)
       → sorted lt (take (n + 1) xs) ≡ x ∷ sorted lt (take n ys)
   pops xs ys n x first in' long s e h =
-      let rest : All (λ y. lt y x ≡ false) (take n ys) = All-from_get_or (λ y. lt y x ≡ false) (take n ys) x (λ i b.
+      let rest : AllByRecursion (λ y. lt y x ≡ false) (take n ys) = All-from_get_or (λ y. lt y x ≡ false) (take n ys) x (λ i b.
       let i' : i < n = omega (arith, length-take-le n ys (omega arith)) in
       subst (λ (y : X). lt y x ≡ false) (sym (get_or-take n ys i x i')) (subst (λ (y : X). lt (get_or ys i x) y ≡ false) (sym first) (⊎_elim
       (λ (z : i ≡ 0). subst (λ (y : X). lt y (get_or xs 0 x) ≡ false) (sym (ap (λ m. get_or ys m x) z ∙ s.0 x)) (root-least lt o xs (n + 1) x h n (omega arith)))

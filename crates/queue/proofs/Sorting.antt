@@ -2,7 +2,7 @@
 use Rattle.std.proofs.Common.{◌≡◌, ℕ, zero, suc, ◌<◌, Bool, true, false, List, [], ◌∷◌, ◌++◌, length, get_or, take, drop, set, sym, refl, ap, ◌∙◌, subst, ⊎_elim, arith}
 use Rattle.std.proofs.lemmas.Bool.{cases_Bool, cond-true, cond-false, both_ways}
 use Rattle.std.proofs.lemmas.List.{drop-set-lt}
-use Rattle.std.specs.List.{AllByRecursion as All}
+use Rattle.std.specs.List.{AllByRecursion}
 use Rattle.queue.specs.Order.{Order, insert, sorted}
 
 -- what stands behind the first n is not touched by a swap among them
@@ -84,23 +84,23 @@ module _ {X : Type 0} {lt : X → X → Bool} (o : Order lt) where
   sorted-push (x ∷ xs) y = ap (insert lt x) (sorted-push xs y) ∙ insert_comm x y (sorted lt xs)
 
   -- x is before none of ys
-  pub all_insert : (P : X → Type 0) (x : X) (ys : List X) → P x → All P ys → All P (insert lt x ys)
+  pub all_insert : (P : X → Type 0) (x : X) (ys : List X) → P x → AllByRecursion P ys → AllByRecursion P (insert lt x ys)
   unfolding insert
   all_insert P x [] p h = (p, tt)
   all_insert P x (y ∷ ys) p h = ⊎_elim
-      (λ t. subst (All P) (sym (insert-past x y ys t)) (h.0, all_insert P x ys p h.1))
-      (λ f. subst (All P) (sym (insert-here x y ys f)) (p, h))
+      (λ t. subst (AllByRecursion P) (sym (insert-past x y ys t)) (h.0, all_insert P x ys p h.1))
+      (λ f. subst (AllByRecursion P) (sym (insert-here x y ys f)) (p, h))
       (cases_Bool (lt y x))
 
-  all-sorted : (P : X → Type 0) (xs : List X) → All P xs → All P (sorted lt xs)
+  all-sorted : (P : X → Type 0) (xs : List X) → AllByRecursion P xs → AllByRecursion P (sorted lt xs)
   unfolding sorted
   all-sorted P [] h = h
   all-sorted P (x ∷ xs) h = all_insert P x (sorted lt xs) h.0 (all-sorted P xs h.1)
 
-  pub least_first : (x : X) (ys : List X) → All (λ y. lt y x ≡ false) ys → insert lt x ys ≡ x ∷ ys
+  pub least_first : (x : X) (ys : List X) → AllByRecursion (λ y. lt y x ≡ false) ys → insert lt x ys ≡ x ∷ ys
   unfolding insert
   least_first x [] h = refl
   least_first x (y ∷ ys) h = insert-here x y ys h.0
 
-  pub least-sorted : (x : X) (xs : List X) → All (λ y. lt y x ≡ false) xs → insert lt x (sorted lt xs) ≡ x ∷ sorted lt xs
+  pub least-sorted : (x : X) (xs : List X) → AllByRecursion (λ y. lt y x ≡ false) xs → insert lt x (sorted lt xs) ≡ x ∷ sorted lt xs
   least-sorted x xs h = least_first x (sorted lt xs) (all-sorted (λ y. lt y x ≡ false) xs h)

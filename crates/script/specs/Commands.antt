@@ -3,7 +3,7 @@ use Rattle.std.specs.Prelude.{◌≡◌, ℕ, List, [], ◌∷◌, map, length, 
 use Rattle.std.specs.Borrow.{Bor}
 use Rattle.std.specs.Int.{saturate_to_bits}
 use Rattle.std.specs.Str.Parse.{IsNumeral, without_leading_sign}
-use Rattle.std.specs.List.{AllByRecursion as All}
+use Rattle.std.specs.List.{AllByRecursion}
 use Rattle.script.specs.declared.command.Command.{Command}
 use Rattle.script.specs.declared.command.Command.TheVariants.{Label, Plain, Grid, Image, Labels, Nodes, Nearest, Mutual, Linked, Links, Measure, Limit}
 use Rattle.script.specs.declared.command.MeasureKind.{MeasureKind}
@@ -14,7 +14,7 @@ use Rattle.script.specs.Whole.{whole_of, nearest_u32}
 
 -- each of the words is a whole number
 abbrev pub Each : List (Bor (List ℕ)) → Type 0
-Each ws = All (λ w. IsNumeral 10 (without_leading_sign w.now)) ws
+Each ws = AllByRecursion (λ w. IsNumeral 10 (without_leading_sign w.now)) ws
 
 -- the words are n whole numbers
 abbrev pub Wholes : ℕ → List (Bor (List ℕ)) → Type 0

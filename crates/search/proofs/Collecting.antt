@@ -1,7 +1,7 @@
 -- A query collects its answers candidate by candidate.
 use Rattle.std.proofs.Common.{◌≡◌, ℕ, ◌+◌, ◌*◌, ◌<◌, ◌≤◌, Bool, true, false, cond, not, eqb, ltb, leb, List, [], ◌∷◌, ◌++◌, map, length, get_or, take, drop, set, Some, None, sum_by, filter, Option, sym, refl, ap, ◌∙◌, subst, ⊎_elim, arith, length-append, length-drop}
 use lib.ListN.{length-map}
-use Rattle.std.specs.List.{AllByRecursion as All}
+use Rattle.std.specs.List.{AllByRecursion}
 use Rattle.std.proofs.lemmas.List.{append_assoc, append-nil, map-append, drop_more, drop_all, set_at, take_all, take_at}
 use Rattle.std.proofs.lemmas.List.Elements.{filter-append}
 use Rattle.std.proofs.ByRecursion.{All-append, All-from_get_or, sum_by_le}
@@ -110,20 +110,20 @@ abbrev Stands : {D : Type 0} → Scene D → D → Subject → Type 0
 Stands s d (OfNode n) = Unit {0}
 Stands s d (OfLabel l) = d ≡ s.to l.place
 
-all-stand : {D : Type 0} (s : Scene D) → All (λ x. Stands s x.distance x.subject) (in_turn s)
+all-stand : {D : Type 0} (s : Scene D) → AllByRecursion (λ x. Stands s x.distance x.subject) (in_turn s)
 unfolding all_items
 all-stand s = all-arranged (ahead s.lt) (λ x. Stands s x.distance x.subject) (all_items s)
     (All-append (λ x. Stands s x.distance x.subject) (map (node_item s.near) (boxed s.table)) (map (label_item s.to) (shown s.view (plan s.table))) (nodes-stand (boxed s.table)) (labels-stand (shown s.view (plan s.table))))
   where
-    nodes-stand : (ns : List (ℕ × Rect)) → All (λ x. Stands s x.distance x.subject) (map (node_item s.near) ns)
+    nodes-stand : (ns : List (ℕ × Rect)) → AllByRecursion (λ x. Stands s x.distance x.subject) (map (node_item s.near) ns)
     nodes-stand [] = tt
     nodes-stand (n ∷ ns) = (tt, nodes-stand ns)
 
-    labels-stand : (ls : List Label) → All (λ x. Stands s x.distance x.subject) (map (label_item s.to) ls)
+    labels-stand : (ls : List Label) → AllByRecursion (λ x. Stands s x.distance x.subject) (map (label_item s.to) ls)
     labels-stand [] = tt
     labels-stand (l ∷ ls) = (refl, labels-stand ls)
 
-all_there : {X : Type 0} (P : X → Type 0) (xs : List X) (x : X) (ys : List X) → All P (xs ++ x ∷ ys) → P x
+all_there : {X : Type 0} (P : X → Type 0) (xs : List X) (x : X) (ys : List X) → AllByRecursion P (xs ++ x ∷ ys) → P x
 all_there P [] x ys h = h.0
 all_there P (z ∷ xs) x ys h = all_there P xs x ys h.1
 
@@ -142,7 +142,7 @@ module _ {D : Type 0} (lt : D → D → Bool) (t : Table) (dist : Place → Plac
   pub record Collected (before after : List ℕ) (count came : ℕ) (limit : Limit D) (rest : List (Item D)) (m n : ℕ) : Type 0 where
     pub gone : List (Item D)
     pub split : in_turn scene-of ≡ gone ++ rest
-    pub passed : All (λ x. passes scene-of k x ≡ true) gone
+    pub passed : AllByRecursion (λ x. passes scene-of k x ≡ true) gone
     pub limited : limit ≡ limit_of k (dists gone)
     pub labels : came ≡ length (dists gone)
     pub put : Put before after count (numbers test (labels_of gone))
@@ -163,7 +163,7 @@ module _ {D : Type 0} (lt : D → D → Bool) (t : Table) (dist : Place → Plac
     costs-few : (ls : List Label) → sum_by cost ls ≤ length ls * 300
     costs-few ls = sum_by_le cost 300 ls (each ls)
       where
-        each : (ls : List Label) → All (λ l. cost l ≤ 300) ls
+        each : (ls : List Label) → AllByRecursion (λ l. cost l ≤ 300) ls
         each [] = tt
         each (l ∷ ls) = (cost-few l, each ls)
 
@@ -175,7 +175,7 @@ module _ {D : Type 0} (lt : D → D → Bool) (t : Table) (dist : Place → Plac
         ls : List Label
         ls = candidates (ranking lt dist bound) q k (others own (plan t))
 
-        every : (ls : List Label) → All (λ (l : Label). ◌≡◌ {A = Bool} true true) ls
+        every : (ls : List Label) → AllByRecursion (λ (l : Label). ◌≡◌ {A = Bool} true true) ls
         every [] = tt
         every (l ∷ ls) = (refl, every ls)
 
@@ -228,7 +228,7 @@ module _ {D : Type 0} (lt : D → D → Bool) (t : Table) (dist : Place → Plac
         walked-split : in_turn scene-of ≡ walked ++ coming
         walked-split = more-gone scene-of fair k one c.gone rest next.0 coming c.passed c.split front-in (found d l) next.1
 
-        walked-passed : All (λ x. passes scene-of k x ≡ true) walked
+        walked-passed : AllByRecursion (λ x. passes scene-of k x ≡ true) walked
         walked-passed = more-passes scene-of fair k one c.gone rest next.0 coming c.passed c.split front-in (found d l) next.1 (subst (λ w. admits lt w d ≡ true) c.limited next.4)
 
         labels-are : labels_of walked ≡ labels_of c.gone ++ l ∷ []
@@ -242,7 +242,7 @@ module _ {D : Type 0} (lt : D → D → Bool) (t : Table) (dist : Place → Plac
 
         pub next-stands : d ≡ dist q l.place
         next-stands = all_there (λ x. Stands scene-of x.distance x.subject) (c.gone ++ next.0) (found d l) coming
-            (subst (All (λ x. Stands scene-of x.distance x.subject)) (c.split ∙ ap (λ w. c.gone ++ w) next.1 ∙ sym (append_assoc c.gone next.0 (found d l ∷ coming))) (all-stand scene-of))
+            (subst (AllByRecursion (λ x. Stands scene-of x.distance x.subject)) (c.split ∙ ap (λ w. c.gone ++ w) next.1 ∙ sym (append_assoc c.gone next.0 (found d l ∷ coming))) (all-stand scene-of))
 
         pub next-shorter : length coming < length rest
         next-shorter = omega (arith, ap length next.1, length-append next.0 (found d l ∷ coming))

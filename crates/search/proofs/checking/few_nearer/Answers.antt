@@ -13,21 +13,21 @@ loop-init g c =
     let m = g.M.Measure in
     let store = g.S.NodeStore in
     let t = store.table a.store.now in
-    let sees : Table → Scene g.row.M-Distance.Denot = λ t. scene g.Distance.Ranked.precedes t (m.dist a.measure.now) (m.bound a.measure.now) a.view in
+    let sees : Table → Scene g.row.M-Distance.Denot = λ t. scene g.M.Distance.Ranked.precedes t (m.dist a.measure.now) (m.bound a.measure.now) a.view in
     let s = sees t in
-    let fair = fair-scene g.met.Distance.Ranked.ordered t (m.dist a.measure.now) (m.bound a.measure.now) a.view (g.met.M.Measure.below a.measure.now) (g.met.M.Measure.inner a.measure.now) (g.met.S.NodeStore.lawful a.store.now) in
+    let fair = fair-scene g.met.M.Distance.Ranked.ordered t (m.dist a.measure.now) (m.bound a.measure.now) a.view (g.met.M.Measure.below a.measure.now) (g.met.M.Measure.inner a.measure.now) (g.met.S.NodeStore.lawful a.store.now) in
     let m0 = store.metered a.store.now in
     (refl, refl, c.start-len.ensures.waiting, subst (λ l. Checked s a.end a.k 0 l m0 m0) (sym c.start-len.ensures.whole) (begin s fair a.end a.k m0))
 
-pub next-label-requires : goal.next-label-requires
-next-label-requires g c =
+pub next_label-requires : goal.next_label-requires
+next_label-requires g c =
     let a = c.args in
     let m = g.M.Measure in
     let store = g.S.NodeStore in
     let t = store.table a.store.now in
-    let sees : Table → Scene g.row.M-Distance.Denot = λ t. scene g.Distance.Ranked.precedes t (m.dist a.measure.now) (m.bound a.measure.now) a.view in
+    let sees : Table → Scene g.row.M-Distance.Denot = λ t. scene g.M.Distance.Ranked.precedes t (m.dist a.measure.now) (m.bound a.measure.now) a.view in
     let s = sees t in
-    let fair = fair-scene g.met.Distance.Ranked.ordered t (m.dist a.measure.now) (m.bound a.measure.now) a.view (g.met.M.Measure.below a.measure.now) (g.met.M.Measure.inner a.measure.now) (g.met.S.NodeStore.lawful a.store.now) in
+    let fair = fair-scene g.met.M.Distance.Ranked.ordered t (m.dist a.measure.now) (m.bound a.measure.now) a.view (g.met.M.Measure.below a.measure.now) (g.met.M.Measure.inner a.measure.now) (g.met.S.NodeStore.lawful a.store.now) in
     let l = c.loop in
     record {
       waiting = subst (λ t. Waiting (sees t) l.items l.len) (sym l.invariant.0) l.invariant.2;
@@ -40,13 +40,13 @@ returns-in-None g c =
     let m = g.M.Measure in
     let store = g.S.NodeStore in
     let t = store.table a.store.now in
-    let sees : Table → Scene g.row.M-Distance.Denot = λ t. scene g.Distance.Ranked.precedes t (m.dist a.measure.now) (m.bound a.measure.now) a.view in
+    let sees : Table → Scene g.row.M-Distance.Denot = λ t. scene g.M.Distance.Ranked.precedes t (m.dist a.measure.now) (m.bound a.measure.now) a.view in
     let s = sees t in
-    let fair = fair-scene g.met.Distance.Ranked.ordered t (m.dist a.measure.now) (m.bound a.measure.now) a.view (g.met.M.Measure.below a.measure.now) (g.met.M.Measure.inner a.measure.now) (g.met.S.NodeStore.lawful a.store.now) in
+    let fair = fair-scene g.met.M.Distance.Ranked.ordered t (m.dist a.measure.now) (m.bound a.measure.now) a.view (g.met.M.Measure.below a.measure.now) (g.met.M.Measure.inner a.measure.now) (g.met.S.NodeStore.lawful a.store.now) in
     let l = c.loop in
-    let told = subst (λ t. Next (sees t) (Before a.end) (left (sees t) (take l.len l.items)) c.next-label.new.items (store.metered l.store) (store.metered c.next-label.new.store) None) l.invariant.0 c.in-None.ensures.next in
-    let e = stops-short s fair a.end a.k l.invariant.3 (omega arith) c.next-label.new.items (store.metered c.next-label.new.store) told in
-    record { table = c.next-label.ensures.table ∙ l.invariant.0; frames = c.next-label.ensures.frames ∙ l.invariant.1; value = sym e.0; metered = e.1 }
+    let told = subst (λ t. Next (sees t) (Before a.end) (left (sees t) (take l.len l.items)) c.next_label.new.items (store.metered l.store) (store.metered c.next_label.new.store) None) l.invariant.0 c.in-None.ensures.next in
+    let e = stops-short s fair a.end a.k l.invariant.3 (omega arith) c.next_label.new.items (store.metered c.next_label.new.store) told in
+    record { table = c.next_label.ensures.table ∙ l.invariant.0; frames = c.next_label.ensures.frames ∙ l.invariant.1; value = sym e.0; metered = e.1 }
 
 pub loop-preserved : goal.loop-preserved
 loop-preserved g c =
@@ -54,13 +54,13 @@ loop-preserved g c =
     let m = g.M.Measure in
     let store = g.S.NodeStore in
     let t = store.table a.store.now in
-    let sees : Table → Scene g.row.M-Distance.Denot = λ t. scene g.Distance.Ranked.precedes t (m.dist a.measure.now) (m.bound a.measure.now) a.view in
+    let sees : Table → Scene g.row.M-Distance.Denot = λ t. scene g.M.Distance.Ranked.precedes t (m.dist a.measure.now) (m.bound a.measure.now) a.view in
     let s = sees t in
-    let fair = fair-scene g.met.Distance.Ranked.ordered t (m.dist a.measure.now) (m.bound a.measure.now) a.view (g.met.M.Measure.below a.measure.now) (g.met.M.Measure.inner a.measure.now) (g.met.S.NodeStore.lawful a.store.now) in
+    let fair = fair-scene g.met.M.Distance.Ranked.ordered t (m.dist a.measure.now) (m.bound a.measure.now) a.view (g.met.M.Measure.below a.measure.now) (g.met.M.Measure.inner a.measure.now) (g.met.S.NodeStore.lawful a.store.now) in
     let l = c.loop in
-    let told = subst (λ t. Next (sees t) (Before a.end) (left (sees t) (take l.len l.items)) c.next-label.new.items (store.metered l.store) (store.metered c.next-label.new.store) (Some c.in-Some.label)) l.invariant.0 c.in-Some.ensures.next in
-    let e = goes_on s fair a.end a.k l.invariant.3 (omega arith) c.next-label.new.items (store.metered c.next-label.new.store) c.in-Some.label told in
-    (c.next-label.ensures.table ∙ l.invariant.0, c.next-label.ensures.frames ∙ l.invariant.1, told.5, e)
+    let told = subst (λ t. Next (sees t) (Before a.end) (left (sees t) (take l.len l.items)) c.next_label.new.items (store.metered l.store) (store.metered c.next_label.new.store) (Some c.in-Some.label)) l.invariant.0 c.in-Some.ensures.next in
+    let e = goes_on s fair a.end a.k l.invariant.3 (omega arith) c.next_label.new.items (store.metered c.next_label.new.store) c.in-Some.label told in
+    (c.next_label.ensures.table ∙ l.invariant.0, c.next_label.ensures.frames ∙ l.invariant.1, told.5, e)
 
 pub returns : goal.returns
 returns g c =
@@ -68,9 +68,9 @@ returns g c =
     let m = g.M.Measure in
     let store = g.S.NodeStore in
     let t = store.table a.store.now in
-    let sees : Table → Scene g.row.M-Distance.Denot = λ t. scene g.Distance.Ranked.precedes t (m.dist a.measure.now) (m.bound a.measure.now) a.view in
+    let sees : Table → Scene g.row.M-Distance.Denot = λ t. scene g.M.Distance.Ranked.precedes t (m.dist a.measure.now) (m.bound a.measure.now) a.view in
     let s = sees t in
-    let fair = fair-scene g.met.Distance.Ranked.ordered t (m.dist a.measure.now) (m.bound a.measure.now) a.view (g.met.M.Measure.below a.measure.now) (g.met.M.Measure.inner a.measure.now) (g.met.S.NodeStore.lawful a.store.now) in
+    let fair = fair-scene g.met.M.Distance.Ranked.ordered t (m.dist a.measure.now) (m.bound a.measure.now) a.view (g.met.M.Measure.below a.measure.now) (g.met.M.Measure.inner a.measure.now) (g.met.S.NodeStore.lawful a.store.now) in
     let l = c.loop in
     let full : l.counter ≡ a.k = omega arith in
     let e = stops-full s fair a.end a.k (subst (λ i. Checked s a.end a.k i (left s (take l.len l.items)) (store.metered a.store.now) (store.metered l.store)) full l.invariant.3) in

@@ -7,6 +7,6 @@ abbrev pub invariant-loop : goal.invariant-loop
 invariant-loop g l =
     let m = g.M.Measure in
     let store = g.S.NodeStore in
-    let s = scene g.Distance.Ranked.precedes (store.table l.initial.store) (m.dist l.measure) (m.bound l.measure) l.view in
+    let s = scene g.M.Distance.Ranked.precedes (store.table l.initial.store) (m.dist l.measure) (m.bound l.measure) l.view in
     (store.table l.store ≡ store.table l.initial.store) × (store.frames l.store ≡ store.frames l.initial.store) × Waiting s l.items l.len
     × Checked s l.end l.k l.counter (left s (take l.len l.items)) (store.metered l.initial.store) (store.metered l.store)

@@ -10,16 +10,16 @@ returns g c =
     let m = g.M.Measure in
     let dist = m.dist a.measure.now in
     let bound = m.bound a.measure.now in
-    let lt = g.Distance.Ranked.precedes in
+    let lt = g.M.Distance.Ranked.precedes in
     let t = g.S.NodeStore.table a.store.now in
     let end : a.distance ≡ dist a.candidate.place a.from = c.requires.distance ∙ g.met.M.Measure.symmetric a.measure.now a.from a.candidate.place in
     record {
-      table = c.few-nearer.ensures.table;
-      frames = c.few-nearer.ensures.frames;
-      value = c.few-nearer.ensures.value
+      table = c.few_nearer.ensures.table;
+      frames = c.few_nearer.ensures.frames;
+      value = c.few_nearer.ensures.value
           ∙ (λ i. ltb (nearer_in (scene lt t dist bound (record { from = c.place.ensures i; own = a.own; candidate = Some (c.number.ensures i) })) (end i)) a.k)
           ∙ tells-confirmed lt dist bound t a.own a.candidate a.from a.k;
-      metered = c.few-nearer.ensures.metered
+      metered = c.few_nearer.ensures.metered
           ∙ (λ i. g.S.NodeStore.metered a.store.now + nodes_before (scene lt t dist bound (record { from = c.place.ensures i; own = a.own; candidate = Some (c.number.ensures i) })) (end i) a.k)
-          ∙ ap (λ n. g.S.NodeStore.metered a.store.now + n) (tells-reach-of lt dist bound t a.own a.candidate g.met.Distance.Ranked.ordered a.from a.k c.requires.count);
+          ∙ ap (λ n. g.S.NodeStore.metered a.store.now + n) (tells-reach-of lt dist bound t a.own a.candidate g.met.M.Distance.Ranked.ordered a.from a.k c.requires.count);
     }

@@ -12,8 +12,8 @@ pub loop-j-init : goal.loop-j-init
 unfolding items_in
 loop-j-init g c = entered-none c.args.items.now c.args.len c.requires.shape
 
-pub push-slot-count-requires : goal.push-slot-count-requires
-push-slot-count-requires g c =
+pub push_slot-count-requires : goal.push_slot-count-requires
+push_slot-count-requires g c =
     let a = c.args in
     let m = g.M.Measure in
     let t = g.S.NodeStore.table a.store.now in
@@ -36,11 +36,11 @@ loop-j-preserved g c =
     let to = m.dist a.measure.now a.view.from in
     let near = m.bound a.measure.now a.view.from in
     let slots = open_slots t o in
-    let lt = ahead g.Distance.Ranked.precedes in
+    let lt = ahead g.M.Distance.Ranked.precedes in
     let is = c.slot.ensures ∙ slot-open t o l.j in
     let more = items_more to near a.view slots l.j ∙ ap (λ s. items_in to near a.view (take l.j slots) ++ listed (item_of to near a.view s)) (sym is) in
-    subst (Entered lt a.items.now c.push-slot-count.new.items a.len c.push-slot-count.result) (sym more)
-    (entered-more (item-order g.met.Distance.Ranked.ordered) a.items.now l.items c.push-slot-count.new.items a.len l.count c.push-slot-count.result (items_in to near a.view (take l.j slots)) (item_of to near a.view c.slot.result) l.invariant c.push-slot-count.ensures)
+    subst (Entered lt a.items.now c.push_slot-count.new.items a.len c.push_slot-count.result) (sym more)
+    (entered-more (item-order g.met.M.Distance.Ranked.ordered) a.items.now l.items c.push_slot-count.new.items a.len l.count c.push_slot-count.result (items_in to near a.view (take l.j slots)) (item_of to near a.view c.slot.result) l.invariant c.push_slot-count.ensures)
 
 pub returns : goal.returns
 returns g c =
@@ -53,4 +53,4 @@ returns g c =
     let near = m.bound a.measure.now a.view.from in
     let few = few-slots t o (g.met.S.NodeStore.lawful a.store.now) in
     let all : take l.j (open_slots t o) ≡ open_slots t o = take_all l.j (open_slots t o) (omega arith) in
-    subst (λ s. Entered (ahead g.Distance.Ranked.precedes) a.items.now l.items a.len l.count (items_in to near a.view s)) all l.invariant
+    subst (λ s. Entered (ahead g.M.Distance.Ranked.precedes) a.items.now l.items a.len l.count (items_in to near a.view s)) all l.invariant

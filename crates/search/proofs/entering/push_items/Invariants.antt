@@ -8,4 +8,4 @@ abbrev pub invariant-loop-j : goal.invariant-loop-j
 invariant-loop-j g l =
     let m = g.M.Measure in
     let slots = open_slots (g.S.NodeStore.table l.store) (g.S.NodeStore.opened l.store) in
-    Entered (ahead g.Distance.Ranked.precedes) l.initial.items l.items l.len l.count (items_in (m.dist l.measure l.view.from) (m.bound l.measure l.view.from) l.view (take l.j slots))
+    Entered (ahead g.M.Distance.Ranked.precedes) l.initial.items l.items l.len l.count (items_in (m.dist l.measure l.view.from) (m.bound l.measure l.view.from) l.view (take l.j slots))

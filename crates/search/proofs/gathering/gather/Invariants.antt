@@ -8,7 +8,7 @@ abbrev pub invariant-loop-next : goal.invariant-loop-next
 invariant-loop-next g l =
     let m = g.M.Measure in
     let store = g.S.NodeStore in
-    let lt = g.Distance.Ranked.precedes in
+    let lt = g.M.Distance.Ranked.precedes in
     let t = store.table l.initial.store in
     let s = asking lt t (m.dist l.measure) (m.bound l.measure) l.from l.own in
     (store.table l.store ≡ t) × (store.frames l.store ≡ store.frames l.initial.store) × Waiting s l.work l.len
@@ -17,4 +17,4 @@ invariant-loop-next g l =
 abbrev pub decreases-loop-next : goal.decreases-loop-next
 decreases-loop-next g l =
     let m = g.M.Measure in
-    length (left (asking g.Distance.Ranked.precedes (g.S.NodeStore.table l.initial.store) (m.dist l.measure) (m.bound l.measure) l.from l.own) (take l.len l.work))
+    length (left (asking g.M.Distance.Ranked.precedes (g.S.NodeStore.table l.initial.store) (m.dist l.measure) (m.bound l.measure) l.from l.own) (take l.len l.work))

@@ -13,21 +13,21 @@ use Rattle.search.specs.Answers.{admitted, answers_of, openings_of, fitting}
 use Rattle.search.proofs.Outcomes.{refused-told, admitted-told, not-refused, refuses, searches, settled}
 use Rattle.search.proofs.queries.nearest.Goals as goal
 
-pub returns-in-err-from : goal.returns-in-err-from
-returns-in-err-from g c =
+pub returns-in_err-from : goal.returns-in_err-from
+returns-in_err-from g c =
     let a = c.args in
     let m = g.M.Measure in
     let store = g.S.NodeStore in
     let t = store.table a.store.now in
-    let near = ranking g.Distance.Ranked.precedes (m.dist a.measure.now) (m.bound a.measure.now) in
+    let near = ranking g.M.Distance.Ranked.precedes (m.dist a.measure.now) (m.bound a.measure.now) in
     let q = place_at a.x a.y in
     let fx : SFits w32 a.x = c.ranges.x in
     let fy : SFits w32 a.y = c.ranges.y in
-    let e = c.in-err-from.field-0.0 in
-    let p = err_from_is_err_and c.from-residual.result c.from-residual.ensures.1 in
-    let is : c.from-residual.result ≡ Err e = p.1 ∙ ap (λ r. Err r) p.2 in
-    let told : Err e ≡ admitted (refused c.is-count.result a.x a.y (work_places t) (length a.work.now)) a.x a.y = simp to_z-of_z at c.in-err-from.ensures in
-    let why = (λ i. refused (sym c.is-count.ensures i) a.x a.y (work_places t) (length a.work.now)) ∙ refused-told _ a.x a.y e told in
+    let e = c.in_err-from.field-0.0 in
+    let p = err_from_is_err_and c.from_residual.result c.from_residual.ensures.1 in
+    let is : c.from_residual.result ≡ Err e = p.1 ∙ ap (λ r. Err r) p.2 in
+    let told : Err e ≡ admitted (refused c.is_count.result a.x a.y (work_places t) (length a.work.now)) a.x a.y = simp to_z-of_z at c.in_err-from.ensures in
+    let why = (λ i. refused (sym c.is_count.ensures i) a.x a.y (work_places t) (length a.work.now)) ∙ refused-told _ a.x a.y e told in
     let r = refuses (refused_nearest t a.x a.y a.k (length a.work.now)) e (nearest_answers near t q a.own a.k) a.answers.now (nearest_openings near t q a.own a.k) (length a.answers.now) why in
     record {
       told = is ∙ r.0;
@@ -46,15 +46,15 @@ gather-count-requires g c =
     let m = g.M.Measure in
     let store = g.S.NodeStore in
     let t = store.table a.store.now in
-    let near = ranking g.Distance.Ranked.precedes (m.dist a.measure.now) (m.bound a.measure.now) in
+    let near = ranking g.M.Distance.Ranked.precedes (m.dist a.measure.now) (m.bound a.measure.now) in
     let q = place_at a.x a.y in
     let fx : SFits w32 a.x = c.ranges.x in
     let fy : SFits w32 a.y = c.ranges.y in
-    let from = c.in-ok-from.from in
-    let told : Ok from ≡ admitted (refused c.is-count.result a.x a.y (work_places t) (length a.work.now)) a.x a.y = simp to_z-of_z at c.in-ok-from.ensures in
+    let from = c.in_ok-from.from in
+    let told : Ok from ≡ admitted (refused c.is_count.result a.x a.y (work_places t) (length a.work.now)) a.x a.y = simp to_z-of_z at c.in_ok-from.ensures in
     let ok = admitted-told _ a.x a.y from told in
-    let fine = not-refused c.is-count.result a.x a.y (work_places t) (length a.work.now) ok.0 in
-    let counts = sym c.is-count.ensures ∙ fine.0 in
+    let fine = not-refused c.is_count.result a.x a.y (work_places t) (length a.work.now) ok.0 in
+    let counts = sym c.is_count.ensures ∙ fine.0 in
     record {
       count = leb-true 1 a.k (and_parts (leb 1 a.k) (leb a.k 64) counts).0;
       room = subst (λ t. work_places t ≤ length a.work.now) (sym c.zero.ensures.table) fine.1;
@@ -68,16 +68,16 @@ returns g c =
     let m = g.M.Measure in
     let store = g.S.NodeStore in
     let t = store.table a.store.now in
-    let near = ranking g.Distance.Ranked.precedes (m.dist a.measure.now) (m.bound a.measure.now) in
+    let near = ranking g.M.Distance.Ranked.precedes (m.dist a.measure.now) (m.bound a.measure.now) in
     let q = place_at a.x a.y in
     let fx : SFits w32 a.x = c.ranges.x in
     let fy : SFits w32 a.y = c.ranges.y in
-    let from = c.in-ok-from.from in
-    let told : Ok from ≡ admitted (refused c.is-count.result a.x a.y (work_places t) (length a.work.now)) a.x a.y = simp to_z-of_z at c.in-ok-from.ensures in
+    let from = c.in_ok-from.from in
+    let told : Ok from ≡ admitted (refused c.is_count.result a.x a.y (work_places t) (length a.work.now)) a.x a.y = simp to_z-of_z at c.in_ok-from.ensures in
     let ok = admitted-told _ a.x a.y from told in
-    let fine = not-refused c.is-count.result a.x a.y (work_places t) (length a.work.now) ok.0 in
+    let fine = not-refused c.is_count.result a.x a.y (work_places t) (length a.work.now) ok.0 in
     let n = store.metered c.gather-count.new.store in
-    let why = (λ i. refused (sym c.is-count.ensures i) a.x a.y (work_places t) (length a.work.now)) ∙ ok.0 in
+    let why = (λ i. refused (sym c.is_count.ensures i) a.x a.y (work_places t) (length a.work.now)) ∙ ok.0 in
     let before = a.answers.now in
     let same = c.zero.ensures.table in
     let e = c.gather-count.ensures in

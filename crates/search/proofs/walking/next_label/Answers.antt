@@ -15,8 +15,8 @@ returns-then-not-admits g c =
     let l = c.loop-x in
     let m = g.M.Measure in
     let store = g.S.NodeStore in
-    let s = scene g.Distance.Ranked.precedes (store.table a.store.now) (m.dist a.measure.now) (m.bound a.measure.now) a.view in
-    let fair = fair-scene g.met.Distance.Ranked.ordered (store.table a.store.now) (m.dist a.measure.now) (m.bound a.measure.now) a.view (g.met.M.Measure.below a.measure.now) (g.met.M.Measure.inner a.measure.now) (g.met.S.NodeStore.lawful a.store.now) in
+    let s = scene g.M.Distance.Ranked.precedes (store.table a.store.now) (m.dist a.measure.now) (m.bound a.measure.now) a.view in
+    let fair = fair-scene g.met.M.Distance.Ranked.ordered (store.table a.store.now) (m.dist a.measure.now) (m.bound a.measure.now) a.view (g.met.M.Measure.below a.measure.now) (g.met.M.Measure.inner a.measure.now) (g.met.S.NodeStore.lawful a.store.now) in
     let before = left s (take a.len a.items.now) in
     let t = taken s l.items c.pop.new.items l.waiting (c.in-Some.x, c.in-Some.rest) l.invariant.2.waits (omega arith) c.in-Some.ensures.told c.in-Some.ensures.queue.0 in
     record { table = l.invariant.0; frames = l.invariant.1; next = walked-stops s fair a.limit before l.invariant.2 t (sym c.admits.ensures ∙ c.if-not-admits.true) }
@@ -27,20 +27,20 @@ returns-in-OfLabel g c =
     let l = c.loop-x in
     let m = g.M.Measure in
     let store = g.S.NodeStore in
-    let s = scene g.Distance.Ranked.precedes (store.table a.store.now) (m.dist a.measure.now) (m.bound a.measure.now) a.view in
-    let fair = fair-scene g.met.Distance.Ranked.ordered (store.table a.store.now) (m.dist a.measure.now) (m.bound a.measure.now) a.view (g.met.M.Measure.below a.measure.now) (g.met.M.Measure.inner a.measure.now) (g.met.S.NodeStore.lawful a.store.now) in
+    let s = scene g.M.Distance.Ranked.precedes (store.table a.store.now) (m.dist a.measure.now) (m.bound a.measure.now) a.view in
+    let fair = fair-scene g.met.M.Distance.Ranked.ordered (store.table a.store.now) (m.dist a.measure.now) (m.bound a.measure.now) a.view (g.met.M.Measure.below a.measure.now) (g.met.M.Measure.inner a.measure.now) (g.met.S.NodeStore.lawful a.store.now) in
     let before = left s (take a.len a.items.now) in
     let t = taken s l.items c.pop.new.items l.waiting (c.in-Some.x, c.in-Some.rest) l.invariant.2.waits (omega arith) c.in-Some.ensures.told c.in-Some.ensures.queue.0 in
     record { table = l.invariant.0; frames = l.invariant.1; next = walked-label s fair a.limit before l.invariant.2 t c.in-OfLabel.label c.in-OfLabel.is (sym c.admits.ensures ∙ c.if-not-admits.false) }
 
-pub open-node-waiting-requires : goal.open-node-waiting-requires
-open-node-waiting-requires g c =
+pub open_node-waiting-requires : goal.open_node-waiting-requires
+open_node-waiting-requires g c =
     let a = c.args in
     let l = c.loop-x in
     let m = g.M.Measure in
     let store = g.S.NodeStore in
-    let s = scene g.Distance.Ranked.precedes (store.table a.store.now) (m.dist a.measure.now) (m.bound a.measure.now) a.view in
-    let fair = fair-scene g.met.Distance.Ranked.ordered (store.table a.store.now) (m.dist a.measure.now) (m.bound a.measure.now) a.view (g.met.M.Measure.below a.measure.now) (g.met.M.Measure.inner a.measure.now) (g.met.S.NodeStore.lawful a.store.now) in
+    let s = scene g.M.Distance.Ranked.precedes (store.table a.store.now) (m.dist a.measure.now) (m.bound a.measure.now) a.view in
+    let fair = fair-scene g.met.M.Distance.Ranked.ordered (store.table a.store.now) (m.dist a.measure.now) (m.bound a.measure.now) a.view (g.met.M.Measure.below a.measure.now) (g.met.M.Measure.inner a.measure.now) (g.met.S.NodeStore.lawful a.store.now) in
     let before = left s (take a.len a.items.now) in
     let t = taken s l.items c.pop.new.items l.waiting (c.in-Some.x, c.in-Some.rest) l.invariant.2.waits (omega arith) c.in-Some.ensures.told c.in-Some.ensures.queue.0 in
     let node = c.in-OfNode.node in
@@ -57,14 +57,14 @@ loop-x-smaller g c =
     let l = c.loop-x in
     let m = g.M.Measure in
     let store = g.S.NodeStore in
-    let s = scene g.Distance.Ranked.precedes (store.table a.store.now) (m.dist a.measure.now) (m.bound a.measure.now) a.view in
-    let fair = fair-scene g.met.Distance.Ranked.ordered (store.table a.store.now) (m.dist a.measure.now) (m.bound a.measure.now) a.view (g.met.M.Measure.below a.measure.now) (g.met.M.Measure.inner a.measure.now) (g.met.S.NodeStore.lawful a.store.now) in
+    let s = scene g.M.Distance.Ranked.precedes (store.table a.store.now) (m.dist a.measure.now) (m.bound a.measure.now) a.view in
+    let fair = fair-scene g.met.M.Distance.Ranked.ordered (store.table a.store.now) (m.dist a.measure.now) (m.bound a.measure.now) a.view (g.met.M.Measure.below a.measure.now) (g.met.M.Measure.inner a.measure.now) (g.met.S.NodeStore.lawful a.store.now) in
     let before = left s (take a.len a.items.now) in
     let t = taken s l.items c.pop.new.items l.waiting (c.in-Some.x, c.in-Some.rest) l.invariant.2.waits (omega arith) c.in-Some.ensures.told c.in-Some.ensures.queue.0 in
     let node = c.in-OfNode.node in
-    let zs = c.open-node-waiting.new.items in
-    let r = c.open-node-waiting.result in
-    let e = subst (λ t. Entered (ahead s.lt) c.pop.new.items zs c.in-Some.rest r (items_in s.to s.near s.view (node_at t node))) l.invariant.0 c.open-node-waiting.ensures.entered in
+    let zs = c.open_node-waiting.new.items in
+    let r = c.open_node-waiting.result in
+    let e = subst (λ t. Entered (ahead s.lt) c.pop.new.items zs c.in-Some.rest r (items_in s.to s.near s.view (node_at t node))) l.invariant.0 c.open_node-waiting.ensures.entered in
     omega (arith, walked-shorter s fair a.limit before l.invariant.2 t node c.in-OfNode.is zs r (omega arith) e)
 
 pub loop-x-preserved : goal.loop-x-preserved
@@ -73,18 +73,18 @@ loop-x-preserved g c =
     let l = c.loop-x in
     let m = g.M.Measure in
     let store = g.S.NodeStore in
-    let s = scene g.Distance.Ranked.precedes (store.table a.store.now) (m.dist a.measure.now) (m.bound a.measure.now) a.view in
-    let fair = fair-scene g.met.Distance.Ranked.ordered (store.table a.store.now) (m.dist a.measure.now) (m.bound a.measure.now) a.view (g.met.M.Measure.below a.measure.now) (g.met.M.Measure.inner a.measure.now) (g.met.S.NodeStore.lawful a.store.now) in
+    let s = scene g.M.Distance.Ranked.precedes (store.table a.store.now) (m.dist a.measure.now) (m.bound a.measure.now) a.view in
+    let fair = fair-scene g.met.M.Distance.Ranked.ordered (store.table a.store.now) (m.dist a.measure.now) (m.bound a.measure.now) a.view (g.met.M.Measure.below a.measure.now) (g.met.M.Measure.inner a.measure.now) (g.met.S.NodeStore.lawful a.store.now) in
     let before = left s (take a.len a.items.now) in
     let t = taken s l.items c.pop.new.items l.waiting (c.in-Some.x, c.in-Some.rest) l.invariant.2.waits (omega arith) c.in-Some.ensures.told c.in-Some.ensures.queue.0 in
     let node = c.in-OfNode.node in
-    let zs = c.open-node-waiting.new.items in
-    let r = c.open-node-waiting.result in
-    let e = subst (λ t. Entered (ahead s.lt) c.pop.new.items zs c.in-Some.rest r (items_in s.to s.near s.view (node_at t node))) l.invariant.0 c.open-node-waiting.ensures.entered in
+    let zs = c.open_node-waiting.new.items in
+    let r = c.open_node-waiting.result in
+    let e = subst (λ t. Entered (ahead s.lt) c.pop.new.items zs c.in-Some.rest r (items_in s.to s.near s.view (node_at t node))) l.invariant.0 c.open_node-waiting.ensures.entered in
     let w = walked-node s fair a.limit before l.invariant.2 t node c.in-OfNode.is zs r (omega arith) e (sym c.admits.ensures ∙ c.if-not-admits.false) in (
-      c.open-node-waiting.ensures.table ∙ l.invariant.0,
-      c.open-node-waiting.ensures.frames ∙ l.invariant.1,
-      subst (Walked s a.limit before zs r (store.metered a.store.now)) (sym c.open-node-waiting.ensures.metered) w,
+      c.open_node-waiting.ensures.table ∙ l.invariant.0,
+      c.open_node-waiting.ensures.frames ∙ l.invariant.1,
+      subst (Walked s a.limit before zs r (store.metered a.store.now)) (sym c.open_node-waiting.ensures.metered) w,
     )
 
 pub returns : goal.returns
@@ -93,6 +93,6 @@ returns g c =
     let l = c.loop-x in
     let m = g.M.Measure in
     let store = g.S.NodeStore in
-    let s = scene g.Distance.Ranked.precedes (store.table a.store.now) (m.dist a.measure.now) (m.bound a.measure.now) a.view in
-    let fair = fair-scene g.met.Distance.Ranked.ordered (store.table a.store.now) (m.dist a.measure.now) (m.bound a.measure.now) a.view (g.met.M.Measure.below a.measure.now) (g.met.M.Measure.inner a.measure.now) (g.met.S.NodeStore.lawful a.store.now) in
-    record { table = l.invariant.0; frames = l.invariant.1; next = walked-ends s fair a.limit (left s (take a.len a.items.now)) l.items c.pop.new.items l.waiting _ _ l.invariant.2 c.in-default.ensures.told }
+    let s = scene g.M.Distance.Ranked.precedes (store.table a.store.now) (m.dist a.measure.now) (m.bound a.measure.now) a.view in
+    let fair = fair-scene g.met.M.Distance.Ranked.ordered (store.table a.store.now) (m.dist a.measure.now) (m.bound a.measure.now) a.view (g.met.M.Measure.below a.measure.now) (g.met.M.Measure.inner a.measure.now) (g.met.S.NodeStore.lawful a.store.now) in
+    record { table = l.invariant.0; frames = l.invariant.1; next = walked-ends s fair a.limit (left s (take a.len a.items.now)) l.items c.pop.new.items l.waiting _ _ l.invariant.2 c.in_default.ensures.told }

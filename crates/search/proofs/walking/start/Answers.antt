@@ -14,12 +14,12 @@ returns g c =
     let a = c.args in
     let m = g.M.Measure in
     let t = g.S.NodeStore.table a.store.now in
-    let s = scene g.Distance.Ranked.precedes t (m.dist a.measure.now) (m.bound a.measure.now) a.view in
-    let fair = fair-scene g.met.Distance.Ranked.ordered t (m.dist a.measure.now) (m.bound a.measure.now) a.view (g.met.M.Measure.below a.measure.now) (g.met.M.Measure.inner a.measure.now) (g.met.S.NodeStore.lawful a.store.now) in
+    let s = scene g.M.Distance.Ranked.precedes t (m.dist a.measure.now) (m.bound a.measure.now) a.view in
+    let fair = fair-scene g.met.M.Distance.Ranked.ordered t (m.dist a.measure.now) (m.bound a.measure.now) a.view (g.met.M.Measure.below a.measure.now) (g.met.M.Measure.inner a.measure.now) (g.met.S.NodeStore.lawful a.store.now) in
     let xs = c.push.new.items in
     let some : 0 < length a.items.now = omega (arith, c.requires) in
-    let told : c.unwrap-or.result ≡ 1 = c.unwrap-or.ensures ∙ ap (λ o. unwrap_or o 0) (c.push.ensures.told ∙ cond-true (ltb 0 (length a.items.now)) (Some (0 + 1)) None (lt-ltb 0 (length a.items.now) some)) in
-    let is : c.near.result ≡ s.near t.box = c.near.ensures ∙ ap s.near c.root-box.ensures in
+    let told : c.unwrap_or.result ≡ 1 = c.unwrap_or.ensures ∙ ap (λ o. unwrap_or o 0) (c.push.ensures.told ∙ cond-true (ltb 0 (length a.items.now)) (Some (0 + 1)) None (lt-ltb 0 (length a.items.now) some)) in
+    let is : c.near.result ≡ s.near t.box = c.near.ensures ∙ ap s.near c.root_box.ensures in
     let pushed = c.push.ensures.queue.contents some ∙ ap (λ d. insert (ahead s.lt) (record { distance = d; subject = (node_item s.near (0, t.box)).subject }) (sorted (ahead s.lt) (take 0 a.items.now))) is in
     let shape = c.push.ensures.queue.shape some (heap-none _ a.items.now) in
     record {
