@@ -1,20 +1,18 @@
 -- A query collects its answers candidate by candidate.
-use Rattle.std.proofs.Common.{◌≡◌, ℕ, ◌+◌, ◌*◌, ◌<◌, ◌≤◌, Bool, true, false, cond, not, eqb, ltb, leb, List, [], ◌∷◌, ◌++◌, map, length, get_or, take, drop, set, Some, None, sum_by, filter, Option, sym, refl, ap, ◌∙◌, subst, ⊎_elim, arith, length-append, length-drop}
-use lib.ListN.{length-map}
+use Rattle.std.proofs.Common.{◌≡◌, ℕ, ◌+◌, ◌*◌, ◌<◌, ◌≤◌, Bool, true, false, cond, not, eqb, ltb, leb, List, [], ◌∷◌, ◌++◌, map, length, get_or, take, drop, set, Some, None, sum_by, filter, Option, sym, refl, ap, ◌∙◌, subst, ⊎_elim, arith, length-append}
 use Rattle.std.specs.List.{AllByRecursion}
 use Rattle.std.proofs.lemmas.List.{append_assoc, append-nil, map-append, drop_more, drop_all, set_at, take_all, take_at}
 use Rattle.std.proofs.lemmas.List.Elements.{filter-append}
-use Rattle.std.proofs.ByRecursion.{All-append, All-from_get_or, sum_by_le}
+use Rattle.std.proofs.ByRecursion.{All-append, sum_by_le}
 use Rattle.std.proofs.lemmas.List.Sums.{sum_by_push}
 use Rattle.std.proofs.lemmas.List.Filters.{length-filter_both}
 use Rattle.std.proofs.lemmas.Bool.{cond-true, cond-false, le-leb, lt-leb, lt-ltb, le-ltb, cases_lt}
 use Rattle.geometry.specs.declared.place.Place.{Place}
 use Rattle.geometry.specs.declared.rect.Rect.{Rect}
 use Rattle.geometry.specs.declared.label.Label.{Label}
-use Rattle.queue.specs.Order.{Order, sorted}
+use Rattle.queue.specs.Order.{sorted}
 use Rattle.queue.proofs.Keeping.{keeps, leaves}
-use Rattle.index.specs.Table.{Table, node_count, plan, boxed}
-use Rattle.index.specs.Laws.{Lawful}
+use Rattle.index.specs.Table.{Table, plan, boxed}
 use Rattle.neighbours.specs.declared.arrival.Arrival.{Arrival}
 use Rattle.neighbours.specs.declared.item.Item.{Item}
 use Rattle.neighbours.specs.declared.item.Subject.{Subject}
@@ -23,10 +21,10 @@ use Rattle.neighbours.specs.declared.limit.Limit.{Limit}
 use Rattle.neighbours.specs.declared.limit.Limit.TheVariants.{Anywhere, UpTo}
 use Rattle.neighbours.specs.Limits.{admits, limit_of}
 use Rattle.neighbours.specs.Items.{ahead}
-use Rattle.neighbours.specs.Ranking.{Ranking, ranking}
+use Rattle.neighbours.specs.Ranking.{ranking}
 use Rattle.neighbours.specs.Neighbours.{others, candidates, confirmed, mutuals, closer, in_order, nearest_answers, mutual_answers}
 use Rattle.neighbours.specs.Reach.{reach, reach_of, nearest_openings, mutual_openings}
-use Rattle.neighbours.specs.Scene.{Scene, label_item, node_item, shown, left, all_items, work_places, Waiting}
+use Rattle.neighbours.specs.Scene.{Scene, label_item, node_item, shown, left, all_items, work_places}
 use Rattle.neighbours.specs.Walks.{is_node, Passes, Stops, found, Next}
 use Rattle.neighbours.proofs.Scenes.{Fair}
 use Rattle.neighbours.proofs.Arranging.{all-arranged}

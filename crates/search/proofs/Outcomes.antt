@@ -1,12 +1,11 @@
 -- What the refusals of a query come to.
-use Rattle.std.proofs.Common.{◌≡◌, ℕ, ◌+◌, ◌<◌, ◌≤◌, Bool, true, false, cond, ◌&&◌, leb, List, [], ◌∷◌, ◌++◌, length, take, drop, ℤ, IfOk, Some, None, Ok, Err, Option, Result, sym, refl, ap, ◌∙◌, subst, ⊎_elim, arith}
+use Rattle.std.proofs.Common.{◌≡◌, ℕ, ◌+◌, ◌≤◌, Bool, true, false, ◌&&◌, leb, List, ◌++◌, length, take, drop, ℤ, IfOk, Some, None, Ok, Err, Option, Result, sym, refl, ap, ◌∙◌, subst, ⊎_elim, arith}
 use Rattle.std.proofs.lemmas.Bool.{cases_Bool, cond-true, cond-false, leb-true}
 use Rattle.geometry.specs.declared.place.Place.{Place}
 use Rattle.geometry.specs.declared.refusal.Refusal.{Refusal}
-use Rattle.geometry.specs.declared.refusal.Reason.TheVariants.{ShortWorkList, BadCount, BadPlace}
+use Rattle.geometry.specs.declared.refusal.Reason.TheVariants.{ShortWorkList, BadPlace}
 use Rattle.geometry.specs.Refusals.{refusal}
 use Rattle.geometry.specs.Plane.{in_range, place_at}
-use Rattle.neighbours.specs.declared.told.Told.{Told}
 use Rattle.neighbours.specs.Queries.{refused, outcome, filled}
 use Rattle.search.specs.Answers.{admitted, concluded, fitting}
 

@@ -1,6 +1,6 @@
 -- The items of a node enter the queue one by one.
-use Rattle.std.proofs.Common.{◌≡◌, ℕ, zero, suc, ◌+◌, ◌<◌, ◌≤◌, Bool, List, [], ◌∷◌, ◌++◌, length, get_or, take, Some, None, Option, sym, refl, ap, ◌∙◌, subst, ⊎_elim, add-zero, add-one, arith, length-append}
-use Rattle.std.specs.List.{flat_map, AllByRecursion}
+use Rattle.std.proofs.Common.{◌≡◌, ℕ, zero, suc, ◌+◌, ◌<◌, ◌≤◌, Bool, List, [], ◌∷◌, ◌++◌, length, get_or, take, Some, None, Option, sym, refl, ap, ◌∙◌, ⊎_elim, add-one, arith, length-append}
+use Rattle.std.specs.List.{flat_map}
 use Rattle.std.proofs.lemmas.List.{append_assoc, append-nil, get_or_past}
 use Rattle.std.proofs.ByRecursion.{All-get_or}
 use Rattle.std.proofs.lemmas.Bool.{cases_lt}
@@ -12,7 +12,7 @@ use Rattle.queue.specs.Calls.{Pushed}
 use Rattle.queue.proofs.Sorting.{sorted-push}
 use Rattle.index.specs.declared.slot.Slot.{Slot}
 use Rattle.index.specs.declared.slot.Slot.TheVariants.{Empty}
-use Rattle.index.specs.Table.{Table, node_count, node_at, slot_at}
+use Rattle.index.specs.Table.{Table, node_count, slot_at}
 use Rattle.index.specs.Laws.{Lawful}
 use Rattle.neighbours.specs.declared.item.Item.{Item}
 use Rattle.neighbours.specs.declared.view.View.{View}

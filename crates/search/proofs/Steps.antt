@@ -1,7 +1,6 @@
 -- A search goes on from node to node to the next label.
-use Rattle.std.proofs.Common.{◌≡◌, ℕ, ◌+◌, ◌<◌, ◌≤◌, Bool, true, false, List, [], ◌∷◌, ◌++◌, length, take, Some, None, sym, refl, ap, ◌∙◌, subst, arith, length-append}
-use Rattle.std.specs.List.{AllByRecursion}
-use Rattle.std.proofs.lemmas.List.{append_assoc, append-nil}
+use Rattle.std.proofs.Common.{◌≡◌, ℕ, ◌+◌, ◌<◌, ◌≤◌, Bool, true, false, List, [], ◌∷◌, ◌++◌, length, take, Some, None, sym, refl, ap, ◌∙◌, arith, length-append}
+use Rattle.std.proofs.lemmas.List.{append_assoc}
 use Rattle.std.proofs.ByRecursion.{All-push}
 use Rattle.geometry.specs.declared.label.Label.{Label}
 use Rattle.geometry.specs.declared.place.Place.{Place}
@@ -19,9 +18,9 @@ use Rattle.neighbours.specs.declared.item.Subject.TheVariants.{OfNode, OfLabel}
 use Rattle.neighbours.specs.declared.limit.Limit.{Limit}
 use Rattle.neighbours.specs.Limits.{admits}
 use Rattle.neighbours.specs.Items.{ahead}
-use Rattle.neighbours.specs.Scene.{Scene, scene, items_in, kids, left, Good, Waiting}
+use Rattle.neighbours.specs.Scene.{Scene, scene, items_in, kids, left, Waiting}
 use Rattle.neighbours.proofs.Scenes.{Fair, Taken, x-good, opened, kids-room, left-turn, waits-on, label-turn, label-waits, left-none, node-kids, node-within}
-use Rattle.neighbours.specs.Walks.{of_node, is_node, Passes, Stops, found, Next}
+use Rattle.neighbours.specs.Walks.{of_node, Passes, Next}
 use Rattle.search.specs.Entering.{Entered}
 
 -- what the laws of a measure and of a store give a search

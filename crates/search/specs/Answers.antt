@@ -1,10 +1,9 @@
 -- How a query comes to its answers.
-use Rattle.std.specs.Prelude.{ℕ, ◌+◌, ◌≤◌, min, Bool, true, cond, ◌&&◌, List, ◌++◌, length, ℤ, Some, None, Ok, Err, Option, Result, nat_le, nat_lt}
+use Rattle.std.specs.Prelude.{ℕ, ◌+◌, ◌≤◌, Bool, true, cond, List, length, ℤ, Some, None, Ok, Err, Option, Result, nat_le, nat_lt}
 use Rattle.geometry.specs.declared.refusal.Refusal.{Refusal}
-use Rattle.geometry.specs.declared.refusal.Reason.TheVariants.{ShortWorkList, ShortAnswerList, BadCount, BadPlace}
+use Rattle.geometry.specs.declared.refusal.Reason.TheVariants.{ShortAnswerList}
 use Rattle.geometry.specs.Refusals.{refusal}
-use Rattle.geometry.specs.Plane.{in_range, place_at}
-use Rattle.listing.specs.Lists.{counted}
+use Rattle.geometry.specs.Plane.{place_at}
 use Rattle.index.specs.Table.{Table, plan}
 use Rattle.neighbours.specs.Ranking.{Ranking}
 use Rattle.neighbours.specs.Neighbours.{others, confirmed, nearest_answers, mutual_answers}

@@ -63,51 +63,51 @@ an-image (w ∷ v ∷ ds) c h = absurd (never c h)
 
 pub returns-in-label : goal.returns-in-label
 returns-in-label c =
-    parsed (codes "label") c.args.words.now c.label.result _ _ c.ok-or.ensures.value (named c.args.words.now _ refl ∙ c.in-label.is) (checked (Wholes 3) (λ ds. label_of (numbers_of ds)) c.args.words.now _ c.label.result (behind c.args.words.now _ refl) c.label.ensures) (λ d h. rw h.1 (refl, (h.0, refl)))
+    parsed (codes "label") c.args.words.now c.label.result _ _ c.ok_or.ensures.value (named c.args.words.now _ refl ∙ c.in-label.is) (checked (Wholes 3) (λ ds. label_of (numbers_of ds)) c.args.words.now _ c.label.result (behind c.args.words.now _ refl) c.label.ensures) (λ d h. rw h.1 (refl, (h.0, refl)))
 
 pub returns-in-plain : goal.returns-in-plain
 returns-in-plain c =
-    parsed (codes "plain") c.args.words.now c.plain.result _ _ c.ok-or-in-plain.ensures.value (named c.args.words.now _ refl ∙ c.in-plain.is) (checked (Wholes 3) (λ ds. plain_of (numbers_of ds)) c.args.words.now _ c.plain.result (behind c.args.words.now _ refl) c.plain.ensures) (λ d h. rw h.1 (refl, (h.0, refl)))
+    parsed (codes "plain") c.args.words.now c.plain.result _ _ c.ok_or-in-plain.ensures.value (named c.args.words.now _ refl ∙ c.in-plain.is) (checked (Wholes 3) (λ ds. plain_of (numbers_of ds)) c.args.words.now _ c.plain.result (behind c.args.words.now _ refl) c.plain.ensures) (λ d h. rw h.1 (refl, (h.0, refl)))
 
 pub returns-in-lattice : goal.returns-in-lattice
 returns-in-lattice c =
-    parsed (codes "lattice") c.args.words.now c.grid.result _ _ c.ok-or-in-lattice.ensures.value (named c.args.words.now _ refl ∙ c.in-lattice.is) (checked (Wholes 6) (λ ds. grid_of (numbers_of ds)) c.args.words.now _ c.grid.result (behind c.args.words.now _ refl) c.grid.ensures) (λ d h. rw h.1 (refl, (h.0, refl)))
+    parsed (codes "lattice") c.args.words.now c.grid.result _ _ c.ok_or-in-lattice.ensures.value (named c.args.words.now _ refl ∙ c.in-lattice.is) (checked (Wholes 6) (λ ds. grid_of (numbers_of ds)) c.args.words.now _ c.grid.result (behind c.args.words.now _ refl) c.grid.ensures) (λ d h. rw h.1 (refl, (h.0, refl)))
 
 pub returns-in-labels : goal.returns-in-labels
 returns-in-labels c =
-    parsed (codes "labels") c.args.words.now c.alone.result _ _ c.ok-or-in-labels.ensures.value (named c.args.words.now _ refl ∙ c.in-labels.is) (checked (λ ds. length ds ≡ 0) (λ ds. Labels) c.args.words.now _ c.alone.result (behind c.args.words.now _ refl) c.alone.ensures) (λ d h. rw h.1 (refl, h.0))
+    parsed (codes "labels") c.args.words.now c.alone.result _ _ c.ok_or-in-labels.ensures.value (named c.args.words.now _ refl ∙ c.in-labels.is) (checked (λ ds. length ds ≡ 0) (λ ds. Labels) c.args.words.now _ c.alone.result (behind c.args.words.now _ refl) c.alone.ensures) (λ d h. rw h.1 (refl, h.0))
 
 pub returns-in-nodes : goal.returns-in-nodes
 returns-in-nodes c =
-    parsed (codes "nodes") c.args.words.now c.alone-in-nodes.result _ _ c.ok-or-in-nodes.ensures.value (named c.args.words.now _ refl ∙ c.in-nodes.is) (checked (λ ds. length ds ≡ 0) (λ ds. Nodes) c.args.words.now _ c.alone-in-nodes.result (behind c.args.words.now _ refl) c.alone-in-nodes.ensures) (λ d h. rw h.1 (refl, h.0))
+    parsed (codes "nodes") c.args.words.now c.alone-in-nodes.result _ _ c.ok_or-in-nodes.ensures.value (named c.args.words.now _ refl ∙ c.in-nodes.is) (checked (λ ds. length ds ≡ 0) (λ ds. Nodes) c.args.words.now _ c.alone-in-nodes.result (behind c.args.words.now _ refl) c.alone-in-nodes.ensures) (λ d h. rw h.1 (refl, h.0))
 
 pub returns-in-nearest : goal.returns-in-nearest
 returns-in-nearest c =
-    parsed (codes "nearest") c.args.words.now c.nearest.result _ _ c.ok-or-in-nearest.ensures.value (named c.args.words.now _ refl ∙ c.in-nearest.is) (checked (Owned 3) nearest_of c.args.words.now _ c.nearest.result (behind c.args.words.now _ refl) c.nearest.ensures) (λ d h. rw h.1 (refl, (h.0, refl)))
+    parsed (codes "nearest") c.args.words.now c.nearest.result _ _ c.ok_or-in-nearest.ensures.value (named c.args.words.now _ refl ∙ c.in-nearest.is) (checked (Owned 3) nearest_of c.args.words.now _ c.nearest.result (behind c.args.words.now _ refl) c.nearest.ensures) (λ d h. rw h.1 (refl, (h.0, refl)))
 
 pub returns-in-mutual : goal.returns-in-mutual
 returns-in-mutual c =
-    parsed (codes "mutual") c.args.words.now c.mutual.result _ _ c.ok-or-in-mutual.ensures.value (named c.args.words.now _ refl ∙ c.in-mutual.is) (checked (Owned 4) mutual_of c.args.words.now _ c.mutual.result (behind c.args.words.now _ refl) c.mutual.ensures) (λ d h. rw h.1 (refl, (h.0, refl)))
+    parsed (codes "mutual") c.args.words.now c.mutual.result _ _ c.ok_or-in-mutual.ensures.value (named c.args.words.now _ refl ∙ c.in-mutual.is) (checked (Owned 4) mutual_of c.args.words.now _ c.mutual.result (behind c.args.words.now _ refl) c.mutual.ensures) (λ d h. rw h.1 (refl, (h.0, refl)))
 
 pub returns-in-linked : goal.returns-in-linked
 returns-in-linked c =
-    parsed (codes "linked") c.args.words.now c.linked.result _ _ c.ok-or-in-linked.ensures.value (named c.args.words.now _ refl ∙ c.in-linked.is) (checked (Wholes 3) (λ ds. linked_of (numbers_of ds)) c.args.words.now _ c.linked.result (behind c.args.words.now _ refl) c.linked.ensures) (λ d h. rw h.1 (refl, (h.0, refl)))
+    parsed (codes "linked") c.args.words.now c.linked.result _ _ c.ok_or-in-linked.ensures.value (named c.args.words.now _ refl ∙ c.in-linked.is) (checked (Wholes 3) (λ ds. linked_of (numbers_of ds)) c.args.words.now _ c.linked.result (behind c.args.words.now _ refl) c.linked.ensures) (λ d h. rw h.1 (refl, (h.0, refl)))
 
 pub returns-in-links : goal.returns-in-links
 returns-in-links c =
-    parsed (codes "links") c.args.words.now c.links.result _ _ c.ok-or-in-links.ensures.value (named c.args.words.now _ refl ∙ c.in-links.is) (checked (Wholes 2) (λ ds. links_of (numbers_of ds)) c.args.words.now _ c.links.result (behind c.args.words.now _ refl) c.links.ensures) (λ d h. rw h.1 (refl, (h.0, refl)))
+    parsed (codes "links") c.args.words.now c.links.result _ _ c.ok_or-in-links.ensures.value (named c.args.words.now _ refl ∙ c.in-links.is) (checked (Wholes 2) (λ ds. links_of (numbers_of ds)) c.args.words.now _ c.links.result (behind c.args.words.now _ refl) c.links.ensures) (λ d h. rw h.1 (refl, (h.0, refl)))
 
 pub returns-in-image : goal.returns-in-image
 returns-in-image c =
-    parsed (codes "image") c.args.words.now c.image.result _ _ c.ok-or-in-image.ensures.value (named c.args.words.now _ refl ∙ c.in-image.is) (path c.args.words.now _ c.image.result (behind c.args.words.now _ refl) c.image.ensures) (an-image (drop 1 c.args.words.now))
+    parsed (codes "image") c.args.words.now c.image.result _ _ c.ok_or-in-image.ensures.value (named c.args.words.now _ refl ∙ c.in-image.is) (path c.args.words.now _ c.image.result (behind c.args.words.now _ refl) c.image.ensures) (an-image (drop 1 c.args.words.now))
 
 pub returns-in-measure : goal.returns-in-measure
 returns-in-measure c =
-    parsed (codes "measure") c.args.words.now c.measure.result _ _ c.ok-or-in-measure.ensures.value (named c.args.words.now _ refl ∙ c.in-measure.is) (told Measured c.args.words.now _ c.measure.result (behind c.args.words.now _ refl) c.measure.ensures) (λ d h. rw h.3 (refl, (h.0, h.1, h.2, refl)))
+    parsed (codes "measure") c.args.words.now c.measure.result _ _ c.ok_or-in-measure.ensures.value (named c.args.words.now _ refl ∙ c.in-measure.is) (told Measured c.args.words.now _ c.measure.result (behind c.args.words.now _ refl) c.measure.ensures) (λ d h. rw h.3 (refl, (h.0, h.1, h.2, refl)))
 
 pub returns-in-limit : goal.returns-in-limit
 returns-in-limit c =
-    parsed (codes "limit") c.args.words.now c.limit.result _ _ c.ok-or-in-limit.ensures.value (named c.args.words.now _ refl ∙ c.in-limit.is) (told Limited c.args.words.now _ c.limit.result (behind c.args.words.now _ refl) c.limit.ensures) (λ d h. rw h.3 (refl, (h.0, h.1, h.2, refl)))
+    parsed (codes "limit") c.args.words.now c.limit.result _ _ c.ok_or-in-limit.ensures.value (named c.args.words.now _ refl ∙ c.in-limit.is) (told Limited c.args.words.now _ c.limit.result (behind c.args.words.now _ refl) c.limit.ensures) (λ d h. rw h.3 (refl, (h.0, h.1, h.2, refl)))
 
 -- a word that is no command's name
 abbrev Unknown : List ℕ → Type 0
@@ -127,12 +127,12 @@ unknown ws u (Links k l) g = u.9 g.0
 unknown ws u (Measure k) g = u.10 g.0
 unknown ws u (Limit l n) g = u.11 g.0
 
-pub returns-in-default : goal.returns-in-default
-returns-in-default c =
+pub returns-in_default : goal.returns-in_default
+returns-in_default c =
     let u : Unknown (name_of c.args.words.now) = search rules in
     unknown c.args.words.now u
 
-pub returns-in-default-name : goal.returns-in-default-name
-returns-in-default-name c =
-    let r = c.in-default-name in
-    unknown c.args.words.now (rw (named c.args.words.now _ refl) (r.not-label, r.not_plain, r.not-lattice, r.not-image, r.not-labels, r.not-nodes, r.not-nearest, r.not-mutual, r.not-linked, r.not-links, r.not-measure, r.not-limit))
+pub returns-in_default-name : goal.returns-in_default-name
+returns-in_default-name c =
+    let r = c.in_default-name in
+    unknown c.args.words.now (rw (named c.args.words.now _ refl) (r.not-label, r.not-plain, r.not-lattice, r.not-image, r.not-labels, r.not-nodes, r.not-nearest, r.not-mutual, r.not-linked, r.not-links, r.not-measure, r.not-limit))

@@ -21,16 +21,16 @@ none r n ws e k = rw e (λ h. k h.1)
 pub loop-i-init : goal.loop-i-init
 loop-i-init g c = (tt, refl, simp length-replicate (sym c.if-words.false))
 
-pub returns-in-err-numbers : goal.returns-in-err-numbers
-returns-in-err-numbers g c =
-    none _ _ c.args.words.now c.from-residual.ensures (λ h. c.in-err-numbers.ensures (All-get_or _ c.args.words.now c.loop-i.i _ c.loop-i-test.true h))
+pub returns-in_err-numbers : goal.returns-in_err-numbers
+returns-in_err-numbers g c =
+    none _ _ c.args.words.now c.from_residual.ensures (λ h. c.in_err-numbers.ensures (All-get_or _ c.args.words.now c.loop-i.i _ c.loop-i-test.true h))
 
 pub loop-i-preserved : goal.loop-i-preserved
 loop-i-preserved g c =
-    let f : SFits w64 c.in-ok-numbers.field-0 = search rules in
-    let got = c.in-ok-numbers.ensures in (
+    let f : SFits w64 c.in_ok-numbers.field-0 = search rules in
+    let got = c.in_ok-numbers.ensures in (
       All-more _ c.args.words.now c.loop-i.i _ c.loop-i-test.true c.loop-i.invariant.0 got.0,
-      one_more c.args.words.now c.loop-i.numbers c.loop-i.i _ c.in-ok-numbers.field-0 c.loop-i-test.true c.loop-i.invariant.2 f got.1 c.loop-i.invariant.1,
+      one_more c.args.words.now c.loop-i.numbers c.loop-i.i _ c.in_ok-numbers.field-0 c.loop-i-test.true c.loop-i.invariant.2 f got.1 c.loop-i.invariant.1,
       simp length-set c.loop-i.invariant.2,
     )
 

@@ -15,14 +15,14 @@ after_minus z bs ds h e k = rw (h, ← e) (k.0, omega (arith, ints, k.1))
 no-digits : (r : Option ℤ) (bs ds : List ℕ) → r ≡ None → get_or bs 0 0 ≡ 45 → ds ≡ drop 1 bs → (IsNumeral 10 ds → ⊥) → SomeIff r (IsNumeral 10 (without_leading_sign bs)) (whole_of bs)
 no-digits r bs ds n h e k = rw (n, h) (rw e at k)
 
-pub returns-in-err-size : goal.returns-in-err-size
-returns-in-err-size c =
-    no-digits _ c.args.word.now _ c.from-residual.ensures (search rules) (behind _ _ c.as-bytes.ensures.value) c.in-err-size.ensures
+pub returns-in_err-size-in-45 : goal.returns-in_err-size-in-45
+returns-in_err-size-in-45 c =
+    no-digits _ c.args.word.now _ c.from_residual.ensures (search rules) (behind _ _ c.as_bytes.ensures.value) c.in_err-size-in-45.ensures
 
-pub returns-in-ok-size : goal.returns-in-ok-size
-returns-in-ok-size c =
-    after_minus _ c.args.word.now _ (search rules) (behind _ _ c.as-bytes.ensures.value) c.in-ok-size.ensures
+pub returns-in_ok-size-in-45 : goal.returns-in_ok-size-in-45
+returns-in_ok-size-in-45 c =
+    after_minus _ c.args.word.now _ (search rules) (behind _ _ c.as_bytes.ensures.value) c.in_ok-size-in-45.ensures
 
 pub returns-in-43 : goal.returns-in-43
 returns-in-43 c =
-    after_plus c.size-in-43.result c.args.word.now _ (search rules) (behind _ _ c.as-bytes.ensures.value) c.size-in-43.ensures
+    after_plus c.size-in-43.result c.args.word.now _ (search rules) (behind _ _ c.as_bytes.ensures.value) c.size-in-43.ensures

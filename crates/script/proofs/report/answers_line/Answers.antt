@@ -7,9 +7,9 @@ use Rattle.script.proofs.report.answers_line.Goals as goal
 
 pub loop-n-preserved : goal.loop-n-preserved
 loop-n-preserved c =
-    let put = c.in-ok-push-str.ensures.bytes in
-    let text = c.as-str.ensures.value in
-    let word : string_bytes c.in-ok-format.field-0 ≡ behind_blank (get_or c.args.numbers.now c.loop-n.n-index 0) = search rules in
+    let put = c.in_ok-push_str.ensures.bytes in
+    let text = c.as_str.ensures.value in
+    let word : string_bytes c.in_ok-format.field-0 ≡ behind_blank (get_or c.args.numbers.now c.loop-n.n-index 0) = search rules in
     one_more behind_blank (codes "answers") _ _ c.args.numbers.now c.loop-n.n-index 0 _ c.loop-n-test.true refl c.loop-n.invariant (cc)
 
 -- a line with a number is the line of the numbers

@@ -13,11 +13,11 @@ one_more es i d was line next h inv p put =
 
 pub loop-number-preserved : goal.loop-number-preserved
 loop-number-preserved c =
-    let fx : SFits w32 (get_or c.as-slice-number-items.result.now c.loop-number.number-index (0, pos 0, pos 0)).1 = search rules in
-    let fy : SFits w32 (get_or c.as-slice-number-items.result.now c.loop-number.number-index (0, pos 0, pos 0)).2 = search rules in
-    let line : string_bytes c.in-ok-label-line.field-0 ≡ label_line (get_or c.as-slice-number-items.result.now c.loop-number.number-index (0, pos 0, pos 0)) = simp to_z-of_z at c.in-ok-label-line.ensures in
-    let text = c.as-str.ensures.value in
-    one_more c.as-slice-number-items.result.now c.loop-number.number-index _ _ c.as-str.result.now _ c.loop-number-test.true c.loop-number.invariant (text ∙ line) c.in-ok-push-line.ensures
+    let fx : SFits w32 (get_or c.as_slice-number-items.result.now c.loop-number.number-index (0, pos 0, pos 0)).1 = search rules in
+    let fy : SFits w32 (get_or c.as_slice-number-items.result.now c.loop-number.number-index (0, pos 0, pos 0)).2 = search rules in
+    let line : string_bytes c.in_ok-label_line.field-0 ≡ label_line (get_or c.as_slice-number-items.result.now c.loop-number.number-index (0, pos 0, pos 0)) = simp to_z-of_z at c.in_ok-label_line.ensures in
+    let text = c.as_str.ensures.value in
+    one_more c.as_slice-number-items.result.now c.loop-number.number-index _ _ c.as_str.result.now _ c.loop-number-test.true c.loop-number.invariant (text ∙ line) c.in_ok-push_line.ensures
 
 -- where there is a label, the lines are those of the labels
 some : (es : List (ℕ × ℤ × ℤ)) → 0 < length es → fold (λ bs d. line_after bs (label_line d)) [] es ≡ label_lines es
@@ -26,7 +26,7 @@ some (e ∷ es) h = refl
 
 pub returns : goal.returns
 returns c =
-    let items = c.as-slice-number-items.ensures.value in
-    let all = take_all c.loop-number.number-index c.as-slice-number-items.result.now c.loop-number-test.false in
-    let more : 0 < length (vec_items c.in-ok-listed.listed) = search rules in
-    (vec_items c.in-ok-listed.listed, c.in-ok-listed.ensures, c.loop-number.invariant ∙ ap (λ es. fold (λ bs d. line_after bs (label_line d)) [] es) (all ∙ items) ∙ some (vec_items c.in-ok-listed.listed) more)
+    let items = c.as_slice-number-items.ensures.value in
+    let all = take_all c.loop-number.number-index c.as_slice-number-items.result.now c.loop-number-test.false in
+    let more : 0 < length (vec_items c.in_ok-listed.listed) = search rules in
+    (vec_items c.in_ok-listed.listed, c.in_ok-listed.ensures, c.loop-number.invariant ∙ ap (λ es. fold (λ bs d. line_after bs (label_line d)) [] es) (all ∙ items) ∙ some (vec_items c.in_ok-listed.listed) more)

@@ -1,7 +1,7 @@
 use Rattle.std.proofs.Common.{◌≡◌, ℕ, ◌<◌, cond, List, [], ◌∷◌, ◌++◌, length, is_ok, IfOk, Ok, Err, string_bytes, Result, ap, ◌∙◌, append_assoc, arith, lit<, rules}
 use Rattle.script.specs.Report.{line_after}
 use Rattle.script.proofs.report.push_line.Goals as goal
-use Rattle.script.proofs.report.push_line.Goals.{then-not-is-empty+in-ok-push, else-not-is-empty}
+use Rattle.script.proofs.report.push_line.Goals.{then-not-is_empty+in_ok-push, else-not-is_empty}
 
 -- the first line stands alone
 first : {T E : Type 0} (r : Result T E) (was next line : List ℕ) → length was ≡ 0 → next ≡ cond (is_ok r) (was ++ line) was → IfOk r (λ _. next ≡ line_after was line)
@@ -17,13 +17,13 @@ later (Err t) was mid next line z m e = tt
 
 pub returns : goal.returns
 returns c =
-    elim c.if-not-is-empty.branch [
-      | then-not-is-empty+in-ok-push w ↦
+    elim c.if-not-is_empty.branch [
+      | then-not-is_empty+in_ok-push w ↦
           let some : 0 < length (string_bytes c.args.lines.now) = search rules in
-          let put = w.in-ok-push.ensures.bytes in
-          let end = w.in-ok-push.ensures.ascii (lit< tt) in
-          later c.push-str.result (string_bytes c.args.lines.now) (string_bytes c.if-not-is-empty.lines) _ c.args.line.now some (ap string_bytes w.lines-is ∙ put ∙ ap (λ e. string_bytes c.args.lines.now ++ e) end) c.push-str.ensures.bytes
-      | else-not-is-empty w ↦
-          let none : length (string_bytes c.if-not-is-empty.lines) ≡ 0 = search rules in
-          rw w.lines-is at (first c.push-str.result (string_bytes c.if-not-is-empty.lines) _ c.args.line.now none c.push-str.ensures.bytes)
+          let put = w.in_ok-push.ensures.bytes in
+          let end = w.in_ok-push.ensures.ascii (lit< tt) in
+          later c.push_str.result (string_bytes c.args.lines.now) (string_bytes c.if-not-is_empty.lines) _ c.args.line.now some (ap string_bytes w.lines-is ∙ put ∙ ap (λ e. string_bytes c.args.lines.now ++ e) end) c.push_str.ensures.bytes
+      | else-not-is_empty w ↦
+          let none : length (string_bytes c.if-not-is_empty.lines) ≡ 0 = search rules in
+          rw w.lines-is at (first c.push_str.result (string_bytes c.if-not-is_empty.lines) _ c.args.line.now none c.push_str.ensures.bytes)
     ]

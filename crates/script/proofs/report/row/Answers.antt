@@ -7,9 +7,9 @@ use Rattle.script.proofs.report.row.Goals as goal
 
 pub loop-f-preserved : goal.loop-f-preserved
 loop-f-preserved g c =
-    let put = c.in-ok-push-str.ensures.bytes in
-    let made = c.in-ok-entry.ensures in
-    let text = c.as-str.ensures.value in
+    let put = c.in_ok-push_str.ensures.bytes in
+    let made = c.in_ok-entry.ensures in
+    let text = c.as_str.ensures.value in
     one_more (entry_of g.D.Shown.shown) c.args.name.now _ _ c.args.found.now c.loop-f.f-index _ c.f-item.result c.loop-f-test.true c.f-item.is c.loop-f.invariant (cc)
 
 pub returns : goal.returns

@@ -1,7 +1,7 @@
-use Rattle.std.proofs.Common.{◌≡◌, ◌+◌, ◌<◌, ◌≤◌, length, take, Some, None, sym, refl, ap, ◌∙◌, subst, arith}
+use Rattle.std.proofs.Common.{◌≡◌, ◌+◌, ◌≤◌, length, take, Some, None, sym, refl, ◌∙◌, subst, arith}
 use Rattle.index.specs.Table.{Table}
 use Rattle.neighbours.specs.declared.limit.Limit.TheVariants.{Before}
-use Rattle.neighbours.specs.Scene.{Scene, scene, left, Waiting, work_places}
+use Rattle.neighbours.specs.Scene.{Scene, scene, left, Waiting}
 use Rattle.neighbours.specs.Walks.{Next}
 use Rattle.neighbours.proofs.Confirming.{Checked, begin, goes_on, stops-short, stops-full, checked-meter}
 use Rattle.search.proofs.Steps.{fair-scene}

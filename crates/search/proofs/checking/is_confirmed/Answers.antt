@@ -1,4 +1,4 @@
-use Rattle.std.proofs.Common.{◌≡◌, ◌+◌, ltb, Some, sym, ap, ◌∙◌}
+use Rattle.std.proofs.Common.{◌≡◌, ◌+◌, ltb, Some, ap, ◌∙◌}
 use Rattle.neighbours.specs.Scene.{scene}
 use Rattle.neighbours.specs.Walks.{nearer_in, nodes_before}
 use Rattle.neighbours.proofs.Confirming.{tells-confirmed, tells-reach-of}

@@ -1,6 +1,5 @@
-use Rattle.std.proofs.Common.{◌≡◌, ◌+◌, ◌≤◌, List, [], ◌∷◌, ◌++◌, length, get_or, take, sym, ap, ◌∙◌, subst, arith}
+use Rattle.std.proofs.Common.{◌≡◌, ◌++◌, length, take, sym, ap, ◌∙◌, subst, arith}
 use Rattle.std.proofs.lemmas.List.{take_all}
-use Rattle.index.specs.declared.slot.Slot.TheVariants.{Empty}
 use Rattle.neighbours.specs.Items.{ahead}
 use Rattle.neighbours.specs.Scene.{item_of, items_in, listed}
 use Rattle.neighbours.specs.Ordering.{item-order}

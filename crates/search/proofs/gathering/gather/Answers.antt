@@ -1,12 +1,12 @@
-use Rattle.std.proofs.Common.{◌≡◌, ◌+◌, ◌<◌, ◌≤◌, true, false, cond, eqb, ltb, length, take, set, Some, None, sym, refl, ap, ◌∙◌, subst, arith, rules}
+use Rattle.std.proofs.Common.{◌≡◌, ◌+◌, ◌≤◌, length, take, set, Some, None, sym, refl, ap, ◌∙◌, subst, arith, rules}
 use Rattle.std.proofs.lemmas.List.{set_past}
 use Rattle.index.specs.Table.{Table}
-use Rattle.neighbours.specs.declared.limit.Limit.TheVariants.{Anywhere, UpTo}
+use Rattle.neighbours.specs.declared.limit.Limit.TheVariants.{Anywhere}
 use Rattle.neighbours.specs.Ranking.{ranking}
 use Rattle.neighbours.specs.Scene.{Scene, left, Waiting, work_places}
 use Rattle.neighbours.specs.Walks.{Next}
 use Rattle.neighbours.proofs.Browsed.{asking}
-use Rattle.search.specs.Answers.{Roomy, accepts, costs, put_at}
+use Rattle.search.specs.Answers.{Roomy, accepts, costs}
 use Rattle.search.proofs.Steps.{fair-scene}
 use Rattle.search.proofs.Collecting.{Collected, collected-none, collected-few, collected-meter, next-stands, next-shorter, next-meter, takes, passes_over, overflows, concludes, put-room, put_full}
 use Rattle.search.proofs.gathering.gather.Goals as goal

@@ -1,4 +1,4 @@
-use Rattle.std.proofs.Common.{◌≡◌, ltb, length, sym}
+use Rattle.std.proofs.Common.{ltb, length, sym}
 use Rattle.std.proofs.lemmas.List.{set_past}
 use Rattle.std.proofs.lemmas.Bool.{cond-false, le-ltb}
 use Rattle.search.proofs.gathering.put_answer.Goals as goal

@@ -1,4 +1,4 @@
-use Rattle.std.proofs.Common.{◌≡◌, ◌≤◌, min, true, ◌&&◌, leb, ◌++◌, length, take, drop, IfOk, Some, None, Ok, Err, sym, refl, ap, ◌∙◌, subst, arith, w32, SFits}
+use Rattle.std.proofs.Common.{◌≡◌, ◌≤◌, leb, ◌++◌, length, take, drop, IfOk, Some, Ok, Err, sym, refl, ap, ◌∙◌, subst, arith, w32, SFits}
 use Rattle.std.proofs.lemmas.Result.{err_from_is_err_and}
 use Rattle.std.proofs.lemmas.Int.{to_z-of_z}
 use Rattle.std.proofs.lemmas.Bool.{and_parts, leb-true}

@@ -1,9 +1,8 @@
-use Rattle.std.proofs.Common.{◌≡◌, ◌≤◌, min, true, ◌&&◌, leb, ◌++◌, length, take, drop, IfOk, Some, None, Ok, Err, sym, refl, ap, ◌∙◌, subst, arith, w32, SFits}
+use Rattle.std.proofs.Common.{◌≡◌, ◌≤◌, leb, ◌++◌, length, take, drop, IfOk, None, Ok, Err, sym, refl, ap, ◌∙◌, subst, arith, w32, SFits}
 use Rattle.std.proofs.lemmas.Result.{err_from_is_err_and}
 use Rattle.std.proofs.lemmas.Int.{to_z-of_z}
 use Rattle.std.proofs.lemmas.Bool.{and_parts, leb-true}
 use Rattle.geometry.specs.Plane.{place_at}
-use Rattle.listing.specs.Lists.{counted}
 use Rattle.neighbours.specs.Ranking.{ranking}
 use Rattle.neighbours.specs.Neighbours.{nearest_answers}
 use Rattle.neighbours.specs.Reach.{nearest_openings}

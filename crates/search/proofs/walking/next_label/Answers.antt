@@ -1,4 +1,4 @@
-use Rattle.std.proofs.Common.{◌≡◌, ◌+◌, ◌<◌, ◌≤◌, true, false, length, take, sym, refl, ap, ◌∙◌, subst, arith, length-append}
+use Rattle.std.proofs.Common.{◌+◌, ◌<◌, ◌≤◌, length, take, sym, refl, ◌∙◌, subst, arith}
 use Rattle.index.specs.Table.{node_at, node_count}
 use Rattle.neighbours.specs.Items.{ahead}
 use Rattle.neighbours.specs.Scene.{scene, left, items_in}

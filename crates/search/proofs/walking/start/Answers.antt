@@ -1,10 +1,9 @@
-use Rattle.std.proofs.Common.{◌≡◌, ◌+◌, ◌<◌, ◌≤◌, ltb, length, take, Some, None, unwrap_or, sym, ap, ◌∙◌, subst, arith}
+use Rattle.std.proofs.Common.{◌≡◌, ◌+◌, ◌<◌, ltb, length, take, Some, None, unwrap_or, sym, ap, ◌∙◌, subst, arith}
 use Rattle.std.proofs.lemmas.Bool.{cond-true, lt-ltb}
 use Rattle.queue.specs.Order.{insert, sorted}
-use Rattle.queue.specs.Calls.{Pushed}
 use Rattle.queue.proofs.Sifting.{heap-none}
 use Rattle.neighbours.specs.Items.{ahead}
-use Rattle.neighbours.specs.Scene.{scene, node_item, left, all_items, Waiting}
+use Rattle.neighbours.specs.Scene.{scene, node_item, left, Waiting}
 use Rattle.neighbours.proofs.Whole.{root-left, root-waits}
 use Rattle.search.proofs.Steps.{fair-scene}
 use Rattle.search.proofs.walking.start.Goals as goal
