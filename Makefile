@@ -2,8 +2,8 @@
 .PHONY: run test
 
 run:
-	rt check labelplan
-	target/bin/labelplan examples/approach.plan
+	cd crates/labelplan && rt run </dev/null
+	crates/labelplan/out/labelplan examples/approach.plan
 
 test:
 	.ci/run
