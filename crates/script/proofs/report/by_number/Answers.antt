@@ -10,7 +10,7 @@ use Rattle.geometry.specs.declared.label.Label.{Label}
 use Rattle.script.specs.Report.{listed}
 use Rattle.script.proofs.report.by_number.Goals as goal
 
--- what comes first in two orders one after the other comes first in the first, or is level there
+-- where orders one after another do not say less, the first of them does not
 unled : (o p q : Ordering) → is_lt (ordering_then (ordering_then o p) q) ≡ false → is_lt o ≡ false
 unled Less p q h = h
 unled Equal p q h = refl
