@@ -1,8 +1,10 @@
 // The tree of nodes that queries read: what a node store is, and makers of one.
 #![tactic(auto)]
 
+pub mod openings;
 pub mod slot;
 pub mod store;
 
-pub use slot::Slot;
+pub use openings::Openings;
+pub use slot::{SLOTS, Slot};
 pub use store::NodeStore;
