@@ -5,7 +5,7 @@ use crate::place::Place;
 pub mod making;
 
 // A label: its number, and its place.
-#[derive(Clone, Copy)]
+#[derive(Clone, Copy, Debug, PartialEq, Eq, PartialOrd, Ord)]
 pub struct Label {
     number: u32,
     place: Place,

@@ -5,7 +5,7 @@ pub mod relations;
 pub mod sides;
 
 // A box on the map: a bounding rectangle, its sides included.
-#[derive(Clone, Copy)]
+#[derive(Clone, Copy, Debug, PartialEq, Eq)]
 pub struct Rect {
     west: i32,
     south: i32,
