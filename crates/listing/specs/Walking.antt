@@ -9,7 +9,7 @@ use Rattle.std.proofs.lemmas.List.Elements.{filter-append}
 use Rattle.queue.specs.Order.{Order, sorted}
 use Rattle.queue.specs.Shape.{Heap}
 use Rattle.queue.specs.Numbers.{number-order}
-use Rattle.queue.proofs.Keys.{by_key, then-weak, tells-level, decided}
+use Rattle.queue.specs.Keys.{by_key, then-weak, tells-level, decided}
 use Rattle.queue.proofs.Keeping.{keeps}
 use Rattle.queue.proofs.Ascending.{Ascending, sorted-ascends, sorted-kept, count-sorted}
 use Rattle.listing.specs.declared.found.Found.{Found}

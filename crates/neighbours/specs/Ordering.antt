@@ -5,7 +5,7 @@ use Rattle.std.proofs.lemmas.Int.{ints}
 use Rattle.std.proofs.lemmas.Bool.{true≢false, false≢true}
 use Rattle.queue.specs.Order.{Order}
 use Rattle.queue.specs.Numbers.{number-order}
-use Rattle.queue.proofs.Keys.{by_key, then-weak, tells-level, decided}
+use Rattle.queue.specs.Keys.{by_key, then-weak, tells-level, decided}
 use Rattle.geometry.specs.declared.label.Label.{Label}
 use Rattle.geometry.proofs.Same.{same_place, same-label}
 use Rattle.neighbours.specs.declared.item.Item.{Item}

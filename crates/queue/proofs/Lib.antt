@@ -4,4 +4,3 @@ pub mod Popping
 pub mod Building
 pub mod Keeping
 pub mod Ascending
-pub mod Keys

@@ -2,10 +2,10 @@
 #![tactic(auto)]
 
 ghost use Rattle.std.specs.Prelude.{◌≡◌, ℕ, ◌+◌, ◌-◌, ◌*◌, ◌/◌, ◌<◌, ◌≤◌, Bool, true, false, length, take, drop, nat_lt, slice_index_or};
-ghost use Rattle.queue.specs.Order.{Order, insert, sorted, smaller};
+ghost use Rattle.queue.specs.Order.{Order, insert, sorted, by_first};
 ghost use Rattle.queue.specs.Shape.{up, Heap, Loose, Least};
 ghost use Rattle.queue.specs.Calls.{pushed, popped, Pushed, Popped};
-ghost use Rattle.queue.specs.Numbers.{number-order, pair-order};
+ghost use Rattle.queue.specs.Numbers.{number-order, first-order};
 
 // A kind of item with a strict total order: two items neither of which is before the other are equal.
 pub trait Ranked: Copy {
@@ -37,13 +37,14 @@ impl Ranked for u32 {
     }
 }
 
-impl Ranked for (u32, u32) {
-    ghost precedes = { smaller };
+// Pairs by the first, and by the second where neither first comes before the other.
+impl<A: Ranked, B: Ranked> Ranked for (A, B) {
+    ghost precedes = { by_first A.precedes B.precedes };
 
-    ghost ordered = { pair-order };
+    ghost ordered = { first-order A.ordered B.ordered };
 
-    fn before(&self, other: &(u32, u32)) -> bool {
-        self.0 < other.0 || self.0 == other.0 && self.1 < other.1
+    fn before(&self, other: &(A, B)) -> bool {
+        self.0.before(&other.0) || !other.0.before(&self.0) && self.1.before(&other.1)
     }
 }
 
@@ -141,7 +142,6 @@ pub fn heapify<T: Ranked>(items: &mut [T])
     ensures contents { sorted T.precedes items.new ≡ sorted T.precedes items.old }
 {
     for len in 0..items.len() {
-        let x = items[len];
-        let _ = push(items, len, x);
+        sift_up(items, len);
     }
 }
