@@ -7,6 +7,8 @@ pub mod rect;
 pub mod refusal;
 
 pub use label::Label;
+pub use label::making::numbered;
 pub use place::Place;
+pub use place::making::in_range;
 pub use rect::Rect;
 pub use refusal::{Reason, Refusal};

@@ -3,6 +3,7 @@ ghost use Rattle.std.specs.Prelude.{◌≤◌, ◌≤ℤ◌, unsigned_abs};
 pub mod making;
 pub mod relations;
 pub mod sides;
+mod span;
 
 // A box on the map: a bounding rectangle, its sides included.
 #[derive(Clone, Copy, Debug, PartialEq, Eq)]

@@ -1,15 +1,22 @@
 ghost use Rattle.std.specs.Prelude.{◌≡◌};
-ghost use Rattle.geometry.specs.Plane.{label_from};
+ghost use Rattle.geometry.specs.Plane.{label_from, numbered};
 
 use super::Label;
 use crate::place::Place;
 use crate::refusal::{Reason, Refusal};
 
+// Whether a label can have the number.
+pub fn numbered(number: u32) -> bool
+    ensures { result ≡ numbered number }
+{
+    1 <= number && number <= 999_999_999
+}
+
 impl Label {
     pub fn new(number: u32, x: i32, y: i32) -> Result<Label, Refusal>
         ensures { result ≡ label_from number x y }
     {
-        if number < 1 || number > 999_999_999 {
+        if !numbered(number) {
             return Err(Refusal {
                 reason: Reason::BadNumber,
                 place: 0,

@@ -7,7 +7,7 @@ use crate::refusal::{Reason, Refusal};
 const LIMIT: u32 = 1_000_000;
 
 // Whether a coordinate lies on the map.
-pub(crate) fn in_range(z: i32) -> bool
+pub fn in_range(z: i32) -> bool
     ensures { result ≡ in_range z }
 {
     z.unsigned_abs() <= LIMIT

@@ -1,22 +1,23 @@
 ghost use Rattle.std.specs.Prelude.{◌≡◌};
-ghost use Rattle.geometry.specs.Plane.{rect_from, span, around, Smallest};
+ghost use Rattle.geometry.specs.Plane.{rect_from, around, Smallest};
 
 use super::Rect;
-use crate::place::making::in_range;
+use super::span::Span;
 use crate::refusal::{Reason, Refusal};
-
-// Whether a side reaches from `low` to `high`, both on the map.
-fn is_span(low: i32, high: i32) -> bool
-    ensures { result ≡ span low high }
-{
-    low <= high && in_range(low) && in_range(high)
-}
 
 impl Rect {
     pub fn new(west: i32, south: i32, east: i32, north: i32) -> Result<Rect, Refusal>
         ensures { result ≡ rect_from west south east north }
     {
-        if !is_span(west, east) || !is_span(south, north) {
+        let across = Span {
+            low: west,
+            high: east,
+        };
+        let along = Span {
+            low: south,
+            high: north,
+        };
+        if !across.is_side() || !along.is_side() {
             return Err(Refusal {
                 reason: Reason::BadBox,
                 place: 0,

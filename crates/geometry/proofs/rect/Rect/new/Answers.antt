@@ -5,8 +5,8 @@ use Rattle.geometry.proofs.rect.Rect.new.Goals as goal
 
 pub invariant_of-result : goal.invariant_of-result
 invariant_of-result c =
-    let across = spanned _ _ (sym c.if-not-is_span.ensures) in
-    let along = spanned _ _ (sym c.if-not-is_span-2.ensures) in
+    let across = spanned _ _ (sym c.if-not-is_side.ensures) in
+    let along = spanned _ _ (sym c.if-not-is_side-2.ensures) in
     record { upright = (across.0, along.0); near = (across.1, along.1, across.2, along.2) }
 
 pub returns : goal.returns
