@@ -12,6 +12,7 @@ ghost use Rattle.measure.specs.Formulas.{straight-grows, street-grows, tile-grow
 
 use geometry::{Place, Rect};
 use queue::Ranked;
+use std::marker::Model;
 
 // A measure, with the laws that every search rests on.
 pub trait Measure {
@@ -39,41 +40,65 @@ pub trait Measure {
     ghost inner: { (m : Self) (a : Place) (b c : Rect) → covering b c ≡ true → Self.Distance.Ranked.precedes (bound m a c) (bound m a b) ≡ false };
 }
 
-// The differences of two places in x and in y.
-fn between(a: Place, b: Place) -> (u32, u32)
-    ensures value { result ≡ differences a b }
-    ensures small { (result.0 ≤ 2000000) × (result.1 ≤ 2000000) }
-{
-    (a.x().abs_diff(b.x()), a.y().abs_diff(b.y()))
+// The differences of two places, or the gaps of a place to a box, in x and in y.
+#[derive(Clone, Copy)]
+struct Differences {
+    x: u32,
+    y: u32,
 }
 
-// The gaps of a place to a box in x and in y.
-fn up_to(a: Place, b: &Rect) -> (u32, u32)
-    ensures value { result ≡ gaps a b.now }
-    ensures small { (result.0 ≤ 2000000) × (result.1 ≤ 2000000) }
-{
-    (b.gap_x(a), b.gap_y(a))
+impl Model for Differences {
+    ghost use Rattle.std.specs.Prelude.{ℕ, ◌≤◌};
+
+    ghost Value = { ℕ × ℕ };
+
+    ghost view = { λ d. (d.x, d.y) };
+
+    ghost invariant = { λ d. (d.x ≤ 2000000) × (d.y ≤ 2000000) };
+
+    ghost inverse = { λ v. record { x = v.0; y = v.1 } };
 }
 
-fn straight_of(d: (u32, u32)) -> u64
-    requires { (d.0 ≤ 2000000) × (d.1 ≤ 2000000) }
-    ensures { result ≡ straight d }
-{
-    let (dx, dy) = (d.0 as u64, d.1 as u64);
-    dx * dx + dy * dy
-}
+impl Differences {
+    fn between(a: Place, b: Place) -> Differences
+        ensures { result ≡ differences a b }
+    {
+        Differences {
+            x: a.x().abs_diff(b.x()),
+            y: a.y().abs_diff(b.y()),
+        }
+    }
 
-fn street_of(d: (u32, u32)) -> u32
-    requires { (d.0 ≤ 2000000) × (d.1 ≤ 2000000) }
-    ensures { result ≡ street d }
-{
-    d.0 + d.1
-}
+    fn up_to(a: Place, b: &Rect) -> Differences
+        ensures { result ≡ gaps a b.now }
+    {
+        Differences {
+            x: b.gap_x(a),
+            y: b.gap_y(a),
+        }
+    }
 
-fn tile_of(d: (u32, u32)) -> (u32, u32)
-    ensures { result ≡ tile d }
-{
-    (d.0.max(d.1), d.0.min(d.1))
+    // The sum of the squares.
+    fn straight(self) -> u64
+        ensures { result ≡ straight self }
+    {
+        let (x, y) = (u64::from(self.x), u64::from(self.y));
+        x * x + y * y
+    }
+
+    // The sum.
+    fn street(self) -> u32
+        ensures { result ≡ street self }
+    {
+        self.x + self.y
+    }
+
+    // The larger, then the smaller.
+    fn tile(self) -> (u32, u32)
+        ensures { result ≡ tile self }
+    {
+        (self.x.max(self.y), self.x.min(self.y))
+    }
 }
 
 // The straight measure: the sum of the squares of the differences, which orders as the straight line does.
@@ -88,6 +113,8 @@ pub struct Street;
 #[derive(Clone, Copy)]
 pub struct Tile;
 
+// The three impls differ in the formula alone, and each stands for itself: it is a rule of the project that a measure
+// proves the laws of its own distances.
 impl Measure for Straight {
     type Distance = u64;
 
@@ -102,11 +129,11 @@ impl Measure for Straight {
     ghost inner = { λ m a b c h. straight-grows _ _ (nested a b c h) };
 
     fn distance(&self, a: Place, b: Place) -> u64 {
-        straight_of(between(a, b))
+        Differences::between(a, b).straight()
     }
 
     fn near(&self, a: Place, b: &Rect) -> u64 {
-        straight_of(up_to(a, b))
+        Differences::up_to(a, b).straight()
     }
 }
 
@@ -124,11 +151,11 @@ impl Measure for Street {
     ghost inner = { λ m a b c h. street-grows _ _ (nested a b c h) };
 
     fn distance(&self, a: Place, b: Place) -> u32 {
-        street_of(between(a, b))
+        Differences::between(a, b).street()
     }
 
     fn near(&self, a: Place, b: &Rect) -> u32 {
-        street_of(up_to(a, b))
+        Differences::up_to(a, b).street()
     }
 }
 
@@ -146,10 +173,10 @@ impl Measure for Tile {
     ghost inner = { λ m a b c h. tile-grows _ _ (nested a b c h) };
 
     fn distance(&self, a: Place, b: Place) -> (u32, u32) {
-        tile_of(between(a, b))
+        Differences::between(a, b).tile()
     }
 
     fn near(&self, a: Place, b: &Rect) -> (u32, u32) {
-        tile_of(up_to(a, b))
+        Differences::up_to(a, b).tile()
     }
 }
