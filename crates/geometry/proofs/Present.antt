@@ -1,13 +1,10 @@
 -- Whether a number is present, label by label.
-use Rattle.std.proofs.Common.{◌≡◌, ℕ, suc, ◌+◌, ◌<◌, Bool, true, false, not, ◌&&◌, ◌||◌, eqb, List, [], ◌∷◌, ◌++◌, length, get_or, drop, sym, refl, ap, ◌∙◌, add-one, arith, drop-cons}
+use Rattle.std.proofs.Common.{◌≡◌, ℕ, Bool, true, false, not, ◌&&◌, ◌||◌, eqb, List, [], ◌∷◌, ◌++◌, refl, ap, ◌∙◌, arith}
 use Rattle.std.proofs.lemmas.Bool.{both_ways}
 use Rattle.std.proofs.lemmas.Bool.Decides.{nat_tests}
 use Rattle.geometry.proofs.Boxes.{and_both}
 use Rattle.geometry.specs.declared.label.Label.{Label}
 use Rattle.geometry.specs.Numbers.{present, distinct}
-
-pub present-more : (n : ℕ) (ls : List Label) (i : ℕ) (l : Label) → i < length ls → l ≡ get_or ls i l → present n (drop i ls) ≡ (eqb l.number n || present n (drop (i + 1) ls))
-present-more n ls i l h e = ap (present n) (drop-cons ls i l h) ∙ ap (λ k. eqb k.number n || present n (drop (suc i) ls)) (sym e) ∙ ap (λ j. eqb l.number n || present n (drop j ls)) (sym (add-one i))
 
 present-push : (n : ℕ) (ls : List Label) (l : Label) → present n (ls ++ l ∷ []) ≡ (present n ls || eqb l.number n)
 present-push n [] l = grind (arith, nat_tests)

@@ -1,11 +1,11 @@
 -- Which numbers a list of labels has.
-use Rattle.std.specs.Prelude.{ℕ, Bool, true, false, not, ◌&&◌, ◌||◌, List, [], ◌∷◌, ◌==◌}
+use Rattle.std.specs.Prelude.{ℕ, Bool, true, not, ◌&&◌, List, [], ◌∷◌, ◌==◌}
+use Rattle.std.specs.List.{list_any}
 use Rattle.geometry.specs.declared.label.Label.{Label}
 
 -- one of the labels has the number n
 abbrev pub present : ℕ → List Label → Bool
-present n [] = false
-present n (l ∷ ls) = l.number == n || present n ls
+present n = list_any (λ l. l.number == n)
 
 -- no number occurs twice
 abbrev pub distinct : List Label → Bool

@@ -1,3 +1,4 @@
+pub mod Failures
 pub mod Neighbours
 pub mod Lists
 pub mod Walking

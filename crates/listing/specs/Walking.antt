@@ -1,10 +1,10 @@
 -- Popping a queue until the first that is no candidate gives the candidates.
-use Rattle.std.specs.Prelude.{◌≡◌, ℕ, ◌+◌, ◌-◌, ◌<◌, ◌≤◌, Bool, true, false, not, List, [], ◌∷◌, ◌++◌, map, length, take, filter, nat_lt, slice_index_or, refl}
+use Rattle.std.specs.Prelude.{◌≡◌, ℕ, ◌-◌, ◌≤◌, Bool, true, false, not, List, [], ◌∷◌, ◌++◌, length, take, filter, nat_lt, slice_index_or, refl}
 use Rattle.std.proofs.Math.Path.{sym, ap}
 use Rattle.std.proofs.Common.{subst, ◌∙◌, ⊎_elim, arith}
 use Rattle.std.specs.List.{AllByRecursion}
 use Rattle.std.proofs.lemmas.Bool.{cases_Bool, cond-true, both_ways}
-use Rattle.std.proofs.lemmas.List.{append_assoc, append-nil, take_all, take_more, map-append}
+use Rattle.std.proofs.lemmas.List.{append_assoc, append-nil, take_all}
 use Rattle.std.proofs.lemmas.List.Elements.{filter-append}
 use Rattle.queue.specs.Order.{Order, sorted}
 use Rattle.queue.specs.Shape.{Heap}
@@ -93,7 +93,3 @@ module _ {D : Type 0} {lt : D → D → Bool} (o : Order lt) (k : ℕ) (lent : L
 -- lists of the same items have the same candidates
 pub nearest-alike : {D : Type 0} {lt : D → D → Bool} → Order lt → (k : ℕ) (xs ys : List (Found D)) → sorted (closer lt) xs ≡ sorted (closer lt) ys → nearest lt k xs ≡ nearest lt k ys
 nearest-alike {lt = lt} o k xs ys e = sym (in_order o k xs) ∙ ap (λ l. filter (candidate (nearer lt) k l) l) e ∙ in_order o k ys
-
--- one more of a list that is gone through
-pub map_more : {A B : Type 0} (f : A → B) (xs : List A) (i : ℕ) (x : A) → i < length xs → x ≡ slice_index_or xs i x → map f (take i xs) ++ f x ∷ [] ≡ map f (take (i + 1) xs)
-map_more f xs i x h e = sym (ap (map f) (take_more xs i x h) ∙ map-append f (take i xs) (slice_index_or xs i x ∷ []) ∙ ap (λ y. map f (take i xs) ++ f y ∷ []) (sym e))

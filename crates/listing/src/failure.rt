@@ -1,11 +1,14 @@
-ghost use Rattle.std.specs.Prelude.{◌≡◌};
+ghost use Rattle.std.specs.Prelude.{◌≡◌, Some};
 ghost use Rattle.listing.specs.declared.failure.Failure.TheVariants.{Refused, NoMemory};
+ghost use Rattle.listing.specs.Failures.{words_of};
 
 use geometry::Refusal;
 use std::alloc::AllocError;
+use std::error::Error;
+use std::fmt;
 
 // Why a call that allocates did not end with its result.
-#[derive(Clone, Copy)]
+#[derive(Clone, Copy, Debug, PartialEq, Eq)]
 pub enum Failure {
     Refused(Refusal),
     NoMemory,
@@ -34,3 +37,16 @@ impl<T: Drop> From<std::alloc::AllocFailed<T>> for Failure {
         Failure::NoMemory
     }
 }
+
+impl fmt::Display for Failure {
+    ghost output = { λ failure. Some (words_of failure) };
+
+    fn fmt<W: fmt::Write>(&self, f: &mut fmt::Formatter<W>) -> fmt::Result {
+        match *self {
+            Failure::Refused(refusal) => write!(f, "{refusal}"),
+            Failure::NoMemory => f.write_str("out of memory"),
+        }
+    }
+}
+
+impl Error for Failure {}

@@ -5,7 +5,7 @@ ghost use Rattle.listing.specs.Walking.{found-order};
 use queue::Ranked;
 
 // A label found: its distance from where the query stands, and its number.
-#[derive(Clone, Copy)]
+#[derive(Clone, Copy, Debug, PartialEq, Eq)]
 pub struct Found<D> {
     pub distance: D,
     pub number: u32,
@@ -17,12 +17,6 @@ impl<D: Ranked> Ranked for Found<D> {
     ghost ordered = { found-order D.Ranked.ordered };
 
     fn before(&self, other: &Found<D>) -> bool {
-        if self.distance.before(&other.distance) {
-            return true;
-        }
-        if other.distance.before(&self.distance) {
-            return false;
-        }
-        self.number < other.number
+        (self.distance, self.number).before(&(other.distance, other.number))
     }
 }

@@ -11,12 +11,7 @@ use std::alloc::Global;
 fn is_present(labels: &[Label], number: u32) -> bool
     ensures { result ≡ present number labels.now }
 {
-    for l in labels {
-        if l.number() == number {
-            return true;
-        }
-    }
-    false
+    labels.iter().any(|l| l.number() == number)
 }
 
 impl LabelList {

@@ -21,14 +21,13 @@ fn find_all<M: Measure>(
 ) -> Result<Vec<Found<M::Distance>>, AllocError>
     ensures { IfOk result (λ v. v.items ≡ map (found (M.dist measure.now from)) labels.now) }
 {
-    let mut all = Vec::new(heap);
-    for l in labels {
-        all.push(Found {
+    labels
+        .iter()
+        .map(|l| Found {
             distance: measure.distance(from, l.place()),
             number: l.number(),
-        })?;
-    }
-    Ok(all)
+        })
+        .collect(heap)
 }
 
 // Whether `x` is farther than the `k`-th of `nearest`, if there is a `k`-th.
@@ -36,10 +35,9 @@ fn is_past<D: Ranked>(nearest: &[Found<D>], k: usize, x: &Found<D>) -> bool
     requires { 1 ≤ k }
     ensures { result ≡ nearer D.Ranked.precedes (slice_index_or nearest.now (k - 1) x.now) x.now }
 {
-    match nearest.get(k - 1) {
-        Some(kth) => kth.distance.before(&x.distance),
-        None => false,
-    }
+    nearest
+        .get(k - 1)
+        .is_some_and(|kth| kth.distance.before(&x.distance))
 }
 
 // The candidates of a list, in order; the list is left as a queue of the others.

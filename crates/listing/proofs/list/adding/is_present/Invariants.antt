@@ -1,6 +1,0 @@
-use Rattle.std.proofs.Common.{◌≡◌, drop}
-use Rattle.geometry.specs.Numbers.{present}
-use Rattle.listing.proofs.list.adding.is_present.Given as goal
-
-abbrev pub invariant-loop-l : goal.invariant-loop-l
-invariant-loop-l l = present l.number (drop l.l-index l.labels) ≡ present l.number l.labels
