@@ -1,71 +1,12 @@
-ghost use Rattle.std.specs.Prelude.{◌≡◌, ◌≤◌, None};
-ghost use Rattle.index.specs.Opening.{result_among, node_among, meter_among};
+ghost use Rattle.std.specs.Prelude.{◌≤◌};
 
-use geometry::{Reason, Refusal};
-
-// The meter counts no further.
-const METER_END: u32 = 2_000_000;
+pub mod opening;
+pub mod reading;
 
 // The node of a store that is open, if one is, and the meter of its openings.
-#[derive(Clone, Copy)]
+#[derive(Clone, Copy, Debug, PartialEq, Eq)]
 pub struct Openings {
     node: Option<usize>,
     meter: u32,
     ghost bounded: { meter ≤ 2000000 },
-}
-
-impl Openings {
-    // No node is open, and the meter is 0.
-    pub fn new() -> Openings
-        ensures node { result.node ≡ None }
-        ensures meter { result.meter ≡ 0 }
-    {
-        Openings {
-            node: None,
-            meter: 0,
-        }
-    }
-
-    pub fn node(&self) -> Option<usize>
-        ensures { result ≡ self.now.node }
-    {
-        self.node
-    }
-
-    pub fn meter(&self) -> u32
-        ensures { result ≡ self.now.meter }
-    {
-        self.meter
-    }
-
-    // Sets the meter to 0.
-    pub fn zero(&mut self)
-        ensures node { self.new.node ≡ self.old.node }
-        ensures meter { self.new.meter ≡ 0 }
-    {
-        self.meter = 0;
-    }
-
-    // Opens node `i` of so many, and raises the meter by one.
-    pub fn open(&mut self, nodes: usize, i: usize) -> Result<(), Refusal>
-        ensures told { result ≡ result_among nodes i self.old.meter }
-        ensures node { self.new.node ≡ node_among nodes i self.old.meter self.old.node }
-        ensures meter { self.new.meter ≡ meter_among nodes i self.old.meter }
-    {
-        if i >= nodes {
-            return Err(Refusal {
-                reason: Reason::NoSuchNode,
-                place: 0,
-            });
-        }
-        if self.meter >= METER_END {
-            return Err(Refusal {
-                reason: Reason::MeterAtEnd,
-                place: 0,
-            });
-        }
-        self.node = Some(i);
-        self.meter += 1;
-        Ok(())
-    }
 }

@@ -4,7 +4,7 @@ use geometry::{Label, Rect};
 pub const SLOTS: usize = 12;
 
 // What a node has in one of its twelve places: nothing, a label, or a branch, which is a box and the node it leads to.
-#[derive(Clone, Copy)]
+#[derive(Clone, Copy, Debug, PartialEq, Eq)]
 pub enum Slot {
     Empty,
     Holds(Label),
