@@ -1,10 +1,10 @@
 -- What opening does, by its three outcomes.
-use Rattle.std.proofs.Common.{◌≡◌, ℕ, ◌+◌, ◌<◌, ◌≤◌, ltb, Some, Ok, Err, Option, sym, ◌∙◌}
-use Rattle.std.proofs.lemmas.Bool.{lt-ltb, le-ltb, and_from, and_left, and_right, cond-true, cond-false}
+use Rattle.std.proofs.Common.{◌≡◌, ℕ, ◌+◌, ◌<◌, ◌≤◌, ltb, Some, Ok, Err, Option, sym, subst, ⊎_elim, ◌∙◌}
+use Rattle.std.proofs.lemmas.Bool.{cases_Bool, ltb-true, and_parts, lt-ltb, le-ltb, and_from, and_left, and_right, cond-true, cond-false}
 use Rattle.geometry.specs.declared.refusal.Reason.TheVariants.{NoSuchNode, MeterAtEnd}
 use Rattle.geometry.specs.Refusals.{refusal}
 use Rattle.index.specs.Table.{Table, node_count}
-use Rattle.index.specs.Opening.{open_result, opens, open_node, open_meter}
+use Rattle.index.specs.Opening.{opens_among, node_among, open_result, opens, open_node, open_meter}
 
 module _ (t : Table) (i m : ℕ) (o : Option ℕ) where
   pub no_node : node_count t ≤ i → (Err (refusal NoSuchNode 0) ≡ open_result t i m) × (o ≡ open_node t i m o) × (m ≡ open_meter t i m)
@@ -31,3 +31,10 @@ module _ (t : Table) (i m : ℕ) (o : Option ℕ) where
         sym (cond-true (opens t i m) (Some i) o both),
         sym (cond-true (opens t i m) (m + 1) m both),
       )
+
+-- what holds of the open node and of each node that there is holds of the node open after
+pub kept : (P : Option ℕ → Type 0) (n i m : ℕ) (o : Option ℕ) → P o → (i < n → P (Some i)) → P (node_among n i m o)
+kept P n i m o p q = ⊎_elim
+    (λ t. subst P (sym (cond-true (opens_among n i m) (Some i) o t)) (q (ltb-true i n (and_parts (ltb i n) (ltb m 2000000) t).0)))
+    (λ f. subst P (sym (cond-false (opens_among n i m) (Some i) o f)) p)
+    (cases_Bool (opens_among n i m))

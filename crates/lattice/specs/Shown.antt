@@ -11,5 +11,5 @@ table_of l = grid_table l.rows l.columns l.step l.x l.y l.first
 -- a lattice with this table, no node open, and meter 0
 pub record Fresh (t : Table) (l : Lattice) : Type 0 where
   pub table : table_of l ≡ t
-  pub opened : l.opened ≡ None
-  pub meter : l.meter ≡ 0
+  pub opened : l.openings.node ≡ None
+  pub meter : l.openings.meter ≡ 0

@@ -14,8 +14,8 @@ shows-count l = count l.rows l.columns l.step l.x l.y l.first l.lined
 pub shows-lawful : (l : Lattice) → Lawful (table_of l)
 shows-lawful l = lawful l.rows l.columns l.step l.x l.y l.first l.lined l.numbered
 
-pub shows-inside : (l : Lattice) → Inside (table_of l) l.opened
-shows-inside l = node-inside l.rows l.columns l.step l.x l.y l.first l.lined l.opened l.within
+pub shows-inside : (l : Lattice) → Inside (table_of l) l.openings.node
+shows-inside l = node-inside l.rows l.columns l.step l.x l.y l.first l.lined l.openings.node l.within
 
 pub shows-exact : (l : Lattice) → Exact l.rows l.columns l.step l.x l.y l.first
 shows-exact l = exact l.rows l.columns l.step l.x l.y l.first l.lined l.across l.upward l.numbered

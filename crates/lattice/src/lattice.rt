@@ -1,6 +1,8 @@
 ghost use Rattle.std.specs.Prelude.{◌≡◌, ◌≤◌, true};
 ghost use Rattle.lattice.specs.Grid.{Lines, Stepped, Reach, Numbered, is_node};
 
+use index::Openings;
+
 pub mod crossings;
 pub mod making;
 pub mod store;
@@ -14,13 +16,11 @@ pub struct Lattice {
     x: i32,
     y: i32,
     first: u32,
-    opened: Option<usize>,
-    meter: u32,
+    openings: Openings,
     ghost lined: { Lines rows columns },
     ghost stepped: { Stepped step },
     ghost across: { Reach x step columns },
     ghost upward: { Reach y step rows },
     ghost numbered: { Numbered rows columns first },
-    ghost within: { is_node rows opened ≡ true },
-    ghost bounded: { meter ≤ 2000000 },
+    ghost within: { is_node rows openings.node ≡ true },
 }

@@ -7,8 +7,8 @@ use super::Lattice;
 use geometry::{Label, Rect};
 use index::Slot;
 
-// The slots of a node, and so the numbers from one row to the next.
-pub(crate) const SLOTS: u32 = 12;
+// The numbers from one row to the next: as many as a leaf has slots.
+pub(crate) const STRIDE: u32 = 12;
 
 // The coordinate `k` steps on from `z`.
 pub(crate) fn advance(z: i32, step: u32, k: u32) -> i32
@@ -38,7 +38,7 @@ impl Lattice {
     {
         let x = advance(self.x, self.step, j);
         let y = advance(self.y, self.step, i);
-        match Label::new(self.first + SLOTS * i + j, x, y) {
+        match Label::new(self.first + STRIDE * i + j, x, y) {
             Ok(l) => l,
             Err(_) => unreachable(),
         }
