@@ -3,7 +3,7 @@
 
 #[cfg(test)]
 mod tests {
-    use geometry::{Label, Place, Rect, Refusal};
+    use geometry::{Label, Place, Reason, Rect, Refusal};
     use image::ImageStore;
     use index::NodeStore;
     use lattice::Lattice;
@@ -14,22 +14,19 @@ mod tests {
     use std::process::Abort;
     use std::test::Fail;
 
-    // The number of a refusal, or 0.
-    fn refused<T: Drop>(r: Result<T, Refusal>) -> u32 {
-        match r {
-            Ok(_) => 0,
-            Err(e) => e.number(),
-        }
+    // The number of a refusal, if it is one.
+    fn refused<T: Drop>(r: Result<T, Refusal>) -> Option<u32> {
+        r.err().map(|e| e.number())
     }
 
     #[test]
     fn places_end_at_a_million(rt: HostRuntime) {
         for (x, y, number) in [
-            (1_000_000, -1_000_000, 0),
-            (1_000_001, 0, 10),
-            (-1_000_001, 0, 10),
-            (0, 1_000_001, 10),
-            (0, i32::MIN, 10),
+            (1_000_000, -1_000_000, None),
+            (1_000_001, 0, Some(10)),
+            (-1_000_001, 0, Some(10)),
+            (0, 1_000_001, Some(10)),
+            (0, i32::MIN, Some(10)),
         ] {
             assert_eq!(rt; refused(Place::new(x, y)), number);
         }
@@ -38,12 +35,12 @@ mod tests {
     #[test]
     fn labels_are_refused_by_number_then_by_place(rt: HostRuntime) {
         for (n, x, number) in [
-            (1, 0, 0),
-            (999_999_999, 0, 0),
-            (0, 0, 6),
-            (1_000_000_000, 0, 6),
-            (0, 1_000_001, 6),
-            (1, 1_000_001, 10),
+            (1, 0, None),
+            (999_999_999, 0, None),
+            (0, 0, Some(6)),
+            (1_000_000_000, 0, Some(6)),
+            (0, 1_000_001, Some(6)),
+            (1, 1_000_001, Some(10)),
         ] {
             assert_eq!(rt; refused(Label::new(n, x, 0)), number);
         }
@@ -52,11 +49,11 @@ mod tests {
     #[test]
     fn boxes_are_upright_and_on_the_map(rt: HostRuntime) {
         for (west, east, number) in [
-            (0, 0, 0),
-            (-1_000_000, 1_000_000, 0),
-            (1, 0, 3),
-            (0, 1_000_001, 3),
-            (-1_000_001, 0, 3),
+            (0, 0, None),
+            (-1_000_000, 1_000_000, None),
+            (1, 0, Some(3)),
+            (0, 1_000_001, Some(3)),
+            (-1_000_001, 0, Some(3)),
         ] {
             assert_eq!(rt; refused(Rect::new(west, 0, east, 0)), number);
             assert_eq!(rt; refused(Rect::new(0, west, 0, east)), number);
@@ -85,12 +82,10 @@ mod tests {
         through(&rt, &mut [0; 4])
     }
 
-    // How an image store answers: the number and place of a refusal, or two zeros.
-    fn answer(store: &mut ImageStore, bytes: &[u8]) -> (u32, usize) {
-        match store.open_image(bytes, &mut [0; 4]) {
-            Ok(()) => (0, 0),
-            Err(e) => (e.number(), e.place),
-        }
+    // The number and the place of an image store's refusal, if it refuses.
+    fn answer(store: &mut ImageStore, bytes: &[u8]) -> Option<(u32, usize)> {
+        let refusal = store.open_image(bytes, &mut [0; 4]).err()?;
+        Some((refusal.number(), refusal.place))
     }
 
     #[test]
@@ -104,19 +99,20 @@ mod tests {
             (1, 6, 2, 2),
             (1, 0, 0, 2),
         ] {
-            assert_eq!(rt; answer(&mut store, &[0, n, m1, m0]).0, number);
+            let told = answer(&mut store, &[0, n, m1, m0]).map(|refusal| refusal.0);
+            assert_eq!(rt; told, Some(number));
         }
-        for (level, count, number, place) in [
-            (7, 0, 0, 0),
-            (8, 0, 2, 0),
-            (0, 12, 2, 1),
-            (0, 13, 2, 0),
+        for (level, count, told) in [
+            (7, 0, None),
+            (8, 0, Some((2, 0))),
+            (0, 12, Some((2, 1))),
+            (0, 13, Some((2, 0))),
         ] {
             let bytes = [
                 0, 1, 0, 1, level, count, 0, 0, 0, 0, 0, 0, 0, 0, 0, 0, 0, 0, 0, 0, 0, 0, 0, 0, 0,
                 0,
             ];
-            assert_eq!(rt; answer(&mut store, &bytes), (number, place));
+            assert_eq!(rt; answer(&mut store, &bytes), told);
         }
         assert_eq!(rt; store.node_count(), 1);
         Ok(())
@@ -130,21 +126,22 @@ mod tests {
         for _ in 0..2_000_000 {
             assert!(rt; store.open(1).is_ok());
         }
-        assert_eq!(rt; refused(store.open(2)), 15);
-        assert_eq!(rt; refused(store.open(0)), 16);
+        assert_eq!(rt; refused(store.open(2)), Some(15));
+        assert_eq!(rt; refused(store.open(0)), Some(16));
         assert_eq!(rt; store.meter(), 2_000_000);
         store.zero();
-        assert_eq!(rt; refused(store.open(0)), 0);
+        assert_eq!(rt; refused(store.open(0)), None);
         Ok(())
     }
 
-    // How many labels a listing has, or its refusal's number added to 1,000.
-    fn listed<M: Measure>(heap: Global, list: &LabelList, measure: &M, k: u32) -> usize {
-        match list.nearest(heap, measure, 0, 0, k) {
-            Ok(found) => found.len(),
-            Err(Failure::Refused(e)) => 1_000 + e.number() as usize,
-            Err(Failure::NoMemory) => 2_000,
-        }
+    // How many labels a listing has.
+    fn listed<M: Measure>(
+        heap: Global,
+        list: &LabelList,
+        measure: &M,
+        k: u32,
+    ) -> Result<usize, Failure> {
+        Ok(list.nearest(heap, measure, 0, 0, k)?.len())
     }
 
     #[test]
@@ -155,12 +152,18 @@ mod tests {
             assert!(rt; list.add(n, x, y).is_ok());
         }
         assert!(rt; list.add(4, 0, 0).is_err());
-        assert_eq!(rt; listed(heap, &list, &Straight, 1), 4);
-        assert_eq!(rt; listed(heap, &list, &Street, 1), 1);
-        assert_eq!(rt; listed(heap, &list, &Street, 2), 4);
-        assert_eq!(rt; listed(heap, &list, &Tile, 1), 3);
-        assert_eq!(rt; listed(heap, &list, &Tile, 64), 5);
-        assert_eq!(rt; listed(heap, &list, &Tile, 65), 1_009);
-        assert_eq!(rt; listed(heap, &list, &Tile, 0), 1_009);
+        assert_eq!(rt; listed(heap, &list, &Straight, 1), Ok(4));
+        assert_eq!(rt; listed(heap, &list, &Street, 1), Ok(1));
+        assert_eq!(rt; listed(heap, &list, &Street, 2), Ok(4));
+        assert_eq!(rt; listed(heap, &list, &Tile, 1), Ok(3));
+        assert_eq!(rt; listed(heap, &list, &Tile, 64), Ok(5));
+        let refusal = Refusal {
+            reason: Reason::BadCount,
+            place: 0,
+        };
+        assert_eq!(rt; refusal.number(), 9);
+        let refused = Err(Failure::Refused(refusal));
+        assert_eq!(rt; listed(heap, &list, &Tile, 65), refused);
+        assert_eq!(rt; listed(heap, &list, &Tile, 0), refused);
     }
 }

@@ -1,4 +1,5 @@
-// A priority queue: a binary heap in the front of a slice that is lent.
+// A priority queue: a binary heap in the front of a slice that is lent. Its length stands beside the slice: it is a rule of
+// the project that a work list is lent and nothing is put on the heap, so no type of the queue's own holds the items.
 #![tactic(auto)]
 
 ghost use Rattle.std.specs.Prelude.{◌≡◌, ℕ, ◌+◌, ◌-◌, ◌*◌, ◌/◌, ◌<◌, ◌≤◌, Bool, true, false, length, take, drop, nat_lt, slice_index_or};
@@ -17,6 +18,7 @@ pub trait Ranked: Copy {
     ghost ordered: { Order precedes };
 }
 
+// The impls of two kinds of numbers are alike: one for every kind that has `Ord` would overlap the impl for pairs.
 impl Ranked for u64 {
     ghost precedes = { nat_lt };
 
@@ -141,6 +143,7 @@ pub fn heapify<T: Ranked>(items: &mut [T])
     ensures shape { Heap T.precedes items.new (length items.new) }
     ensures contents { sorted T.precedes items.new ≡ sorted T.precedes items.old }
 {
+    // What counts up is the queue's length, which no iterator over the items gives.
     for len in 0..items.len() {
         sift_up(items, len);
     }
