@@ -1,6 +1,4 @@
-use Rattle.std.proofs.Common.{◌≡◌, length, subst, arith}
-use Rattle.queue.specs.Shape.{Heap}
-use Rattle.queue.proofs.Building.{built-none, built-more, built-all}
+use Rattle.queue.proofs.Building.{built-none, built-more}
 use Rattle.queue.proofs.heapify.Goals as goal
 
 pub loop-len-init : goal.loop-len-init
@@ -11,9 +9,3 @@ loop-len-preserved g c =
     let l = c.loop-len in
     let after = c.sift_up.ensures in
     built-more g.met.T.Ranked.ordered c.args.items.now l.items c.sift_up.new.items l.len c.loop-len-test.true l.auto.items l.invariant after.shape after.contents after.rest
-
-pub returns : goal.returns
-returns g c =
-    let l = c.loop-len in
-    let whole : l.len ≡ length l.items = omega arith in
-    record { shape = subst (Heap g.T.Ranked.precedes l.items) whole l.invariant.shape; contents = built-all _ c.args.items.now l.items l.len c.loop-len-test.false l.auto.items l.invariant }

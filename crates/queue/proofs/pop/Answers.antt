@@ -4,9 +4,6 @@ use Rattle.queue.proofs.Sifting.{loose-agrees}
 use Rattle.queue.proofs.Sorting.{drop-swapped}
 use Rattle.queue.proofs.pop.Goals as goal
 
-pub sift_down-requires : goal.sift_down-requires
-sift_down-requires g c = omega (arith, c.swap.ensures.len)
-
 pub returns : goal.returns
 returns g c =
     let a = c.args in

@@ -1,13 +1,10 @@
 use Rattle.std.proofs.Common.{◌+◌, ◌<◌, length, take, set, ap, ◌∙◌, arith}
-use Rattle.std.proofs.lemmas.List.{length-set, get_or-set_other, take_more_set, drop-set-lt}
+use Rattle.std.proofs.lemmas.List.{get_or-set_other, take_more_set, drop-set-lt}
 use Rattle.std.proofs.lemmas.Bool.Decides.{nat_tests}
 use Rattle.queue.specs.Order.{sorted}
 use Rattle.queue.proofs.Sorting.{sorted-push}
 use Rattle.queue.proofs.Sifting.{heap-agrees}
 use Rattle.queue.proofs.push.Goals as goal
-
-pub sift_up-requires : goal.sift_up-requires
-sift_up-requires g c = simp length-set (omega arith)
 
 pub returns : goal.returns
 returns g c =

@@ -10,13 +10,6 @@ use Rattle.lattice.proofs.lattice.Lattice.root_slot.Goals as goal
 pub returns-then-j-self : goal.returns-then-j-self
 returns-then-j-self c = let l = c.args.self.now in first-empty l.rows _ c.args.j l.lined.1 c.if-j-self.true
 
-pub box_between-requires : goal.box_between-requires
-box_between-requires c =
-    let l = c.args.self.now in
-    let near = along-near l.y l.step l.rows c.args.j l.upward c.if-j-self.false in
-    let y = advanced l.y _ l.step c.args.j l.upward.0 near c.advance-y.ensures in
-    subst (λ z. span z z ≡ true) (sym y) (point-spans (along l.y l.step c.args.j) near)
-
 pub returns : goal.returns
 returns c =
     let l = c.args.self.now in

@@ -1,14 +1,9 @@
-use Rattle.std.proofs.Common.{◌≡◌, ◌-◌, true, false, length, get_or, vec_items, sym, ap, ◌∙◌, subst, arith}
+use Rattle.std.proofs.Common.{◌≡◌, ◌-◌, true, false, get_or, vec_items, sym, ap, ◌∙◌, subst, arith}
 use Rattle.queue.proofs.Popping.{popped-none, popped-some}
 use Rattle.listing.specs.Neighbours.{nearer, nearest}
-use Rattle.listing.specs.Walking.{Walked, walked_none, walked_more, walked-stops, walked_all, nearest-alike}
+use Rattle.listing.specs.Walking.{Walked, walked_more, walked-stops, walked_all, nearest-alike}
 use Rattle.listing.proofs.list.nearest.take_nearest.Goals as goal
 use Rattle.listing.proofs.list.nearest.take_nearest.Goals.{in-Some+then-is_past, in_default}
-
-pub loop-x-init : goal.loop-x-init
-loop-x-init g c =
-    let items = c.heapify.new.items in
-    subst (λ got. Walked g.D.Ranked.precedes c.args.k items got items (length items)) (sym c.new-nearest.ensures.items) (walked_none g.met.D.Ranked.ordered c.args.k items c.heapify.ensures.shape)
 
 pub loop-x-preserved : goal.loop-x-preserved
 loop-x-preserved g c =
