@@ -1,3 +1,1 @@
-pub mod Whole
 pub mod Commands
-pub mod Report

@@ -8,9 +8,7 @@ use std::io::{BufRead, BufReader};
 use std::str::from_utf8;
 
 mod command;
-mod number;
 mod plan;
-mod report;
 mod session;
 
 // What a line says: the text before its comment, without the blanks around it.

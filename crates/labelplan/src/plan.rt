@@ -1,9 +1,9 @@
 // The plan at hand: a node store, read through its nodes.
-use crate::report::{node_line, push_line, slot_entry};
 use geometry::{Label, Rect};
 use image::ImageStore;
 use index::{NodeStore, Slot};
 use lattice::Lattice;
+use script::report::{node_line, push_line, slot_entry};
 use std::alloc::{AllocError, Global};
 
 // How many slots a node has.

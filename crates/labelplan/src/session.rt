@@ -1,11 +1,15 @@
-use crate::command::{Command, parse};
+ghost use Rattle.labelplan.specs.Commands.{IsObeyed};
+
+use crate::command::parse;
 use crate::plan::Plan;
-use crate::report::{label_lines, refused, row};
 use geometry::Label;
 use image::ImageStore;
 use lattice::Lattice;
 use listing::{Failure, LabelList, nearest_of};
 use measure::{Straight, Street, Tile};
+use script::Command;
+use script::command::WorkList;
+use script::report::{label_lines, refused, row};
 use std::alloc::{AllocError, Global};
 use std::fs;
 
@@ -50,7 +54,9 @@ impl<'a> Session<'a> {
     }
 
     // What the command prints, or why it has no result.
-    fn obey(&mut self, command: Command<'_>) -> Result<String, Failure> {
+    fn obey(&mut self, command: Command<'_>) -> Result<String, Failure>
+        requires { IsObeyed command }
+    {
         match command {
             Command::Label { number, x, y } => self.label(number, x, y),
             Command::Plain { x, y, k } => self.plain(x, y, k),
@@ -65,7 +71,11 @@ impl<'a> Session<'a> {
             Command::Image { path } => self.image(path),
             Command::Labels => self.labels(),
             Command::Nodes => self.nodes(),
-            Command::Limit { places } => self.limit(places),
+            Command::Limit {
+                list: WorkList::Numbers,
+                places,
+            } => self.limit(places),
+            _ => unreachable!(),
         }
     }
 
