@@ -1,48 +1,17 @@
 // The plan at hand: a node store, read through its nodes.
 use geometry::{Label, Rect};
 use image::ImageStore;
-use index::{NodeStore, Slot};
+use index::{NodeStore, SLOTS, Slot};
 use lattice::Lattice;
 use script::report::{node_line, push_line, slot_entry};
 use std::alloc::{AllocError, Global};
 
-// How many slots a node has.
-const SLOTS: usize = 12;
+pub mod store;
 
 #[derive(Drop)]
 pub enum Plan {
     Grid(Lattice),
     Image(ImageStore),
-}
-
-impl Plan {
-    // The labels, from node to node, and the plan again.
-    pub fn labels(self, heap: Global) -> (Plan, Result<Vec<Label>, AllocError>) {
-        match self {
-            Plan::Grid(mut store) => {
-                let labels = labels_of(heap, &mut store);
-                (Plan::Grid(store), labels)
-            }
-            Plan::Image(mut store) => {
-                let labels = labels_of(heap, &mut store);
-                (Plan::Image(store), labels)
-            }
-        }
-    }
-
-    // A line for each node, and the plan again.
-    pub fn nodes(self, heap: Global) -> (Plan, Result<String, AllocError>) {
-        match self {
-            Plan::Grid(mut store) => {
-                let lines = nodes_of(heap, &mut store);
-                (Plan::Grid(store), lines)
-            }
-            Plan::Image(mut store) => {
-                let lines = nodes_of(heap, &mut store);
-                (Plan::Image(store), lines)
-            }
-        }
-    }
 }
 
 // Adds the labels of the open node.
@@ -56,7 +25,7 @@ fn add_labels<S: NodeStore>(store: &S, labels: &mut Vec<Label>) -> Result<(), Al
 }
 
 // The labels of a store, from node to node.
-fn labels_of<S: NodeStore>(heap: Global, store: &mut S) -> Result<Vec<Label>, AllocError> {
+pub fn labels_of<S: NodeStore>(heap: Global, store: &mut S) -> Result<Vec<Label>, AllocError> {
     let mut labels = Vec::new(heap);
     store.zero();
     for i in 0..store.node_count() {
@@ -104,7 +73,7 @@ fn open_node<S: NodeStore>(
 }
 
 // A line for each node of a store. A branch leads to a greater node, whose box is known when its turn comes.
-fn nodes_of<S: NodeStore>(heap: Global, store: &mut S) -> Result<String, AllocError> {
+pub fn nodes_of<S: NodeStore>(heap: Global, store: &mut S) -> Result<String, AllocError> {
     let root = store.root_box();
     let mut boxes = vec![in heap; root; store.node_count()]?;
     let mut lines = String::new(heap);

@@ -1,7 +1,7 @@
 ghost use Rattle.labelplan.specs.Commands.{IsObeyed};
 
 use crate::command::parse;
-use crate::plan::Plan;
+use crate::plan::{Plan, labels_of, nodes_of};
 use geometry::Label;
 use image::ImageStore;
 use lattice::Lattice;
@@ -94,12 +94,8 @@ impl<'a> Session<'a> {
 
     // The labels of the plan at hand, or else of the list.
     fn labels_at_hand(&mut self) -> Result<Vec<Label>, AllocError> {
-        match self.plan.take() {
-            Some(plan) => {
-                let (plan, labels) = plan.labels(self.heap);
-                self.plan = Some(plan);
-                labels
-            }
+        match &mut self.plan {
+            Some(plan) => labels_of(self.heap, plan),
             None => self.list.labels().iter().copied().collect(self.heap),
         }
     }
@@ -136,12 +132,8 @@ impl<'a> Session<'a> {
 
     // A line for each node.
     fn nodes(&mut self) -> Result<String, Failure> {
-        match self.plan.take() {
-            Some(plan) => {
-                let (plan, lines) = plan.nodes(self.heap);
-                self.plan = Some(plan);
-                Ok(lines?)
-            }
+        match &mut self.plan {
+            Some(plan) => Ok(nodes_of(self.heap, plan)?),
             None => self.say("no plan is at hand"),
         }
     }
