@@ -9,10 +9,14 @@ use std::alloc::{AllocError, Global};
 pub mod store;
 
 #[derive(Drop)]
-pub enum Plan {
-    Grid(Lattice),
-    Image(ImageStore),
+pub enum Plan<G, I> {
+    Grid(G),
+    Image(I),
 }
+
+// What the program's commands make.
+pub type MapPlan = Plan<Lattice, ImageStore>;
+
 
 // Adds the labels of the open node.
 fn add_labels<S: NodeStore>(store: &S, labels: &mut Vec<Label>) -> Result<(), AllocError> {

@@ -1,7 +1,7 @@
 ghost use Rattle.labelplan.specs.Commands.{IsObeyed};
 
 use crate::command::parse;
-use crate::plan::{Plan, labels_of, nodes_of};
+use crate::plan::{MapPlan, Plan, labels_of, nodes_of};
 use geometry::Label;
 use image::ImageStore;
 use lattice::Lattice;
@@ -22,7 +22,7 @@ pub struct Session<'a> {
     rt: &'a HostRuntime,
     heap: Global,
     list: LabelList,
-    plan: Option<Plan>,
+    plan: Option<MapPlan>,
     // how many places the number list has that an image is opened with
     places: u32,
 }
@@ -107,7 +107,7 @@ impl<'a> Session<'a> {
     }
 
     // Puts a plan in the place of the plan at hand.
-    fn take_plan(&mut self, plan: Plan) -> Result<String, Failure> {
+    fn take_plan(&mut self, plan: MapPlan) -> Result<String, Failure> {
         self.plan = Some(plan);
         self.say("ok")
     }

@@ -1,26 +1,24 @@
 ghost use Rattle.labelplan.specs.declared.plan.Plan.TheVariants.{Grid, Image};
-ghost use Rattle.lattice.specs.contracts.lattice.store.LatticeNodeStore.TheImpl.Laws as grid-laws;
-ghost use Rattle.image.specs.contracts.store.nodes.ImageStoreNodeStore.TheImpl.Laws as image-laws;
 
 use super::Plan;
 use geometry::{Rect, Refusal};
-use image::ImageStore;
 use index::{NodeStore, Slot};
-use lattice::Lattice;
 
-// The plan at hand is read as the store that it is.
-impl NodeStore for Plan {
-    ghost table = { elim [ Grid s ↦ ⟦<Lattice as NodeStore>⟧.table s | Image s ↦ ⟦<ImageStore as NodeStore>⟧.table s ] };
+// A plan is read as the store that it is.
+impl<G: NodeStore, I: NodeStore> NodeStore for Plan<G, I> {
+    ghost table = { elim [ Grid s ↦ G.table s | Image s ↦ I.table s ] };
 
-    ghost opened = { elim [ Grid s ↦ ⟦<Lattice as NodeStore>⟧.opened s | Image s ↦ ⟦<ImageStore as NodeStore>⟧.opened s ] };
+    ghost opened = { elim [ Grid s ↦ G.opened s | Image s ↦ I.opened s ] };
 
-    ghost metered = { elim [ Grid s ↦ ⟦<Lattice as NodeStore>⟧.metered s | Image s ↦ ⟦<ImageStore as NodeStore>⟧.metered s ] };
+    ghost metered = { elim [ Grid s ↦ G.metered s | Image s ↦ I.metered s ] };
 
-    ghost lawful = { elim [ Grid s ↦ grid-laws.lawful-law s | Image s ↦ image-laws.lawful-law s ] };
+    ghost frames = { elim [ Grid s ↦ G.frames s | Image s ↦ I.frames s ] };
 
-    ghost within = { elim [ Grid s ↦ grid-laws.within-law s | Image s ↦ image-laws.within-law s ] };
+    ghost lawful = { elim [ Grid s ↦ G.lawful s | Image s ↦ I.lawful s ] };
 
-    ghost bounded = { elim [ Grid s ↦ grid-laws.bounded-law s | Image s ↦ image-laws.bounded-law s ] };
+    ghost within = { elim [ Grid s ↦ G.within s | Image s ↦ I.within s ] };
+
+    ghost bounded = { elim [ Grid s ↦ G.bounded s | Image s ↦ I.bounded s ] };
 
     fn node_count(&self) -> usize {
         match self {
