@@ -90,6 +90,10 @@ list_word Numbers = codes "numbers"
 list_word Answers = codes "answers"
 list_word Work = codes "work"
 
+-- the kind of a name, and an error where no kind has it
+abbrev pub Named : {K E : Type 0} → (K → List ℕ) → List ℕ → Result K E → Type 0
+Named {K} word_of w r = MatchResult r (λ k. w ≡ word_of k) (λ _. (k : K) → w ≡ word_of k → ⊥)
+
 -- the one word is the name of the measure that is set
 abbrev pub Measured : List (Bor (List ℕ)) → Command → Type 0
 Measured ws c = (k : MeasureKind) × (length ws ≡ 1) × (name_of ws ≡ kind_word k) × (c ≡ Measure k)

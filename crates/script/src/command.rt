@@ -1,20 +1,54 @@
 // The commands of a script.
-ghost use Rattle.std.specs.Prelude.{◌≡◌, length, take, drop};
+ghost use Rattle.std.specs.Prelude.{◌≡◌, length, take, drop, Some, codes};
 ghost use Rattle.std.specs.Option.{SomeIff};
-ghost use Rattle.script.specs.Commands.{Wholes, numbers_of, Own, own_of, Owned, Told, kind_word, list_word, label_of, plain_of, grid_of, image_of, nearest_of, mutual_of, linked_of, links_of, Measured, Limited, Parsed};
+ghost use Rattle.script.specs.Commands.{Wholes, numbers_of, Own, own_of, Owned, Told, label_of, plain_of, grid_of, image_of, nearest_of, mutual_of, linked_of, links_of, Measured, Limited, Parsed};
 
 use crate::number::{to_i32, to_u32, whole};
+use std::error::Error;
+use std::fmt;
+use std::str::FromStr;
+
+// A word that is no name of what is looked for.
+#[derive(Clone, Copy, Debug, PartialEq, Eq)]
+pub struct UnknownName;
+
+impl fmt::Display for UnknownName {
+    ghost output = { λ _. Some (codes "no such name") };
+
+    fn fmt<W: fmt::Write>(&self, f: &mut fmt::Formatter<W>) -> fmt::Result {
+        f.write_str("no such name")
+    }
+}
+
+impl Error for UnknownName {}
 
 // A measure, by its name.
-#[derive(Clone, Copy)]
+#[derive(Clone, Copy, Debug, PartialEq, Eq)]
 pub enum MeasureKind {
     Straight,
     Street,
     Tile,
 }
 
+impl FromStr for MeasureKind {
+    type Err = UnknownName;
+
+    ghost use Rattle.script.specs.Commands.{Named, kind_word};
+
+    ghost from_str_gives = { Named kind_word };
+
+    fn from_str(word: &str) -> Result<MeasureKind, UnknownName> {
+        match word {
+            "straight" => Ok(MeasureKind::Straight),
+            "street" => Ok(MeasureKind::Street),
+            "tile" => Ok(MeasureKind::Tile),
+            _ => Err(UnknownName),
+        }
+    }
+}
+
 // A list that a call is lent.
-#[derive(Clone, Copy)]
+#[derive(Clone, Copy, Debug, PartialEq, Eq)]
 pub enum WorkList {
     // What an image's numbers are checked with.
     Numbers,
@@ -24,7 +58,25 @@ pub enum WorkList {
     Work,
 }
 
-#[derive(Clone, Copy)]
+impl FromStr for WorkList {
+    type Err = UnknownName;
+
+    ghost use Rattle.script.specs.Commands.{Named, list_word};
+
+    ghost from_str_gives = { Named list_word };
+
+    fn from_str(word: &str) -> Result<WorkList, UnknownName> {
+        match word {
+            "numbers" => Ok(WorkList::Numbers),
+            "answers" => Ok(WorkList::Answers),
+            "work" => Ok(WorkList::Work),
+            _ => Err(UnknownName),
+        }
+    }
+}
+
+// What a line of a script asks for.
+#[derive(Clone, Copy, Debug, PartialEq, Eq)]
 pub enum Command<'a> {
     // Adds a label to the list.
     Label {
@@ -225,38 +277,14 @@ fn links<'a>(words: &[&'a str]) -> Option<Command<'a>>
     })
 }
 
-// The measure of that name.
-fn kind_named(word: &str) -> Option<MeasureKind>
-    ensures { Told (λ k. word.now ≡ kind_word k) result }
-{
-    match word {
-        "straight" => Some(MeasureKind::Straight),
-        "street" => Some(MeasureKind::Street),
-        "tile" => Some(MeasureKind::Tile),
-        _ => None,
-    }
-}
-
 // The word after `measure`: straight, street or tile.
 fn measure<'a>(words: &[&'a str]) -> Option<Command<'a>>
     ensures { Told (Measured words.now) result }
 {
     match words {
         [word] => Some(Command::Measure {
-            kind: kind_named(word)?,
+            kind: word.parse().ok()?,
         }),
-        _ => None,
-    }
-}
-
-// The list of that name.
-fn list_named(word: &str) -> Option<WorkList>
-    ensures { Told (λ l. word.now ≡ list_word l) result }
-{
-    match word {
-        "numbers" => Some(WorkList::Numbers),
-        "answers" => Some(WorkList::Answers),
-        "work" => Some(WorkList::Work),
         _ => None,
     }
 }
@@ -267,7 +295,7 @@ fn limit<'a>(words: &[&'a str]) -> Option<Command<'a>>
 {
     match words {
         [word, rest @ ..] => {
-            let list = list_named(word)?;
+            let list: WorkList = word.parse().ok()?;
             let [places] = wholes::<1>(rest)?;
             Some(Command::Limit {
                 list,

@@ -1,9 +1,10 @@
 // What a script's commands print.
 ghost use Rattle.std.specs.Prelude.{◌≡◌, ℕ, List, ◌++◌, IfOk, string_bytes, codes, decimal, OnOk};
 ghost use Rattle.std.specs.List.{flat_map};
-ghost use Rattle.script.specs.Report.{entry_of, ByNumber, label_line, Listing, line_after, answers_line, opened_line, link_line, links_line, node_line, slot_entry, words_of, line_of};
+ghost use Rattle.geometry.specs.Words.{line_of};
+ghost use Rattle.script.specs.Report.{entry_of, ByNumber, label_line, Listing, line_after, answers_line, opened_line, link_line, links_line, node_line, slot_entry};
 
-use geometry::{Label, Reason, Rect, Refusal};
+use geometry::{Label, Rect, Refusal};
 use index::Slot;
 use listing::Found;
 use std::alloc::{AllocError, Global};
@@ -65,10 +66,10 @@ pub fn row<D: Shown>(heap: Global, name: &str, found: &[Found<D>]) -> Result<Str
 fn by_number(heap: Global, labels: &[Label]) -> Result<Vec<(u32, i32, i32)>, AllocError>
     ensures { IfOk result (λ v. ByNumber labels.now v.items) }
 {
-    let mut listed = Vec::new(heap);
-    for l in labels {
-        listed.push((l.number(), l.place().x(), l.place().y()))?;
-    }
+    let mut listed: Vec<(u32, i32, i32)> = labels
+        .iter()
+        .map(|l| (l.number(), l.place().x(), l.place().y()))
+        .collect(heap)?;
     listed.sort_unstable();
     Ok(listed)
 }
@@ -144,38 +145,11 @@ pub fn slot_entry(heap: Global, j: usize, slot: Slot) -> Result<String, AllocErr
     }
 }
 
-// A reason in words.
-fn words(reason: Reason) -> &'static str
-    ensures { result.now ≡ words_of reason }
-{
-    match reason {
-        Reason::BadLength => "the image has a wrong length",
-        Reason::BadSize => "a size is out of range",
-        Reason::BadBox => "a box is not upright, out of range, or not one place",
-        Reason::BadTarget => "a target breaks the tree rules",
-        Reason::OutsideBox => "an entry lies outside its node's box",
-        Reason::BadNumber => "a number is out of range or occurs twice",
-        Reason::ShortWorkList => "a work list is too short",
-        Reason::ShortAnswerList => "there are more answers than places",
-        Reason::BadCount => "a count is out of range",
-        Reason::BadPlace => "a place is out of range",
-        Reason::NumberPresent => "the number is in the plan already",
-        Reason::NumberAbsent => "the number is not in the plan",
-        Reason::TwelveHeld => "twelve are held already",
-        Reason::EditClosed => "the edit is closed",
-        Reason::NoSuchNode => "there is no such node",
-        Reason::MeterAtEnd => "the meter is at its end",
-    }
-}
-
 // The line of a refusal.
 pub fn refused(heap: Global, refusal: Refusal) -> Result<String, AllocError>
     ensures { IfOk result (λ s. string_bytes s ≡ line_of refusal) }
 {
-    let number = refusal.number();
-    let place = refusal.place;
-    let words = words(refusal.reason);
-    format!(in heap; "refused {number} at {place}: {words}")
+    format!(in heap; "{refusal}")
 }
 
 // The numbers of an answer.
