@@ -152,8 +152,9 @@ fn wholes<const N: usize>(words: &[&str]) -> Option<[i64; N]>
         return None;
     }
     let mut numbers = [0; N];
-    for (i, word) in words.iter().enumerate() {
-        numbers[i] = whole(word)?;
+    let mut rest = words.iter();
+    for number in numbers.iter_mut() {
+        *number = whole(rest.next()?)?;
     }
     Some(numbers)
 }

@@ -2,11 +2,8 @@ use Rattle.std.proofs.Common.{◌≡◌, ℕ, ◌+◌, ◌-◌, ◌*◌, ◌^◌
 use Rattle.std.specs.Str.Parse.{digits_value}
 use Rattle.std.specs.Char.{is_ascii_digit, digit_value}
 use Rattle.std.proofs.lemmas.Int.Digits.{digits_value_more, digits_more}
-use Rattle.std.proofs.lemmas.List.{take_all}
 use Rattle.std.proofs.lemmas.Str.Parse.{digit_at}
-use Rattle.std.proofs.lemmas.Int.{ints}
 use Rattle.std.proofs.lemmas.Bool.Decides.{nat_tests}
-use Rattle.script.specs.Whole.{size_of}
 use Rattle.script.proofs.number.size.Goals as goal
 
 digit-is : (b : ℕ) → is_ascii_digit b ≡ true → digit_value b ≡ b - 48
@@ -27,9 +24,3 @@ loop-d-preserved c =
       digits_more 10 c.args.digits.now c.loop-d.d-index c.loop-d-test.true c.loop-d.invariant.0 c.if-not-is_ascii_digit.ensures.bound,
       cc,
     )
-
-pub returns : goal.returns
-returns c =
-    let e = take_all c.loop-d.d-index c.args.digits.now c.loop-d-test.false in
-    let m : c.min.result ≡ size_of c.args.digits.now = grind (arith, rw e at c.loop-d.invariant.1) in
-    ((search rules, rw e at c.loop-d.invariant.0), omega (arith, ints))

@@ -1,8 +1,7 @@
-use Rattle.std.proofs.Common.{◌≡◌, ℕ, ◌+◌, ◌<◌, List, [], ◌∷◌, length, get_or, take, ℤ, pos, vec_items, string_bytes, fold, refl, ap, ◌∙◌, arith, w32, SFits, rules}
-use Rattle.std.proofs.lemmas.List.{take_all}
+use Rattle.std.proofs.Common.{◌≡◌, ℕ, ◌+◌, ◌<◌, List, [], length, get_or, take, ℤ, pos, string_bytes, fold, ◌∙◌, w32, SFits, rules}
 use Rattle.std.proofs.lemmas.Int.{to_z-of_z}
 use Rattle.std.proofs.lemmas.List.Sums.{fold_more}
-use Rattle.script.specs.Report.{label_line, label_lines, line_after}
+use Rattle.script.specs.Report.{label_line, line_after}
 use Rattle.script.proofs.report.label_lines.Goals as goal
 
 -- one more label has its line
@@ -18,15 +17,3 @@ loop-number-preserved c =
     let line : string_bytes c.in_ok-label_line.field-0 ≡ label_line (get_or c.as_slice-number-items.result.now c.loop-number.number-index (0, pos 0, pos 0)) = simp to_z-of_z at c.in_ok-label_line.ensures in
     let text = c.as_str.ensures.value in
     one_more c.as_slice-number-items.result.now c.loop-number.number-index _ _ c.as_str.result.now _ c.loop-number-test.true c.loop-number.invariant (text ∙ line) c.in_ok-push_line.ensures
-
--- where there is a label, the lines are those of the labels
-some : (es : List (ℕ × ℤ × ℤ)) → 0 < length es → fold (λ bs d. line_after bs (label_line d)) [] es ≡ label_lines es
-some [] h = absurd (omega (arith, h))
-some (e ∷ es) h = refl
-
-pub returns : goal.returns
-returns c =
-    let items = c.as_slice-number-items.ensures.value in
-    let all = take_all c.loop-number.number-index c.as_slice-number-items.result.now c.loop-number-test.false in
-    let more : 0 < length (vec_items c.in_ok-listed.listed) = search rules in
-    (vec_items c.in_ok-listed.listed, c.in_ok-listed.ensures, c.loop-number.invariant ∙ ap (λ es. fold (λ bs d. line_after bs (label_line d)) [] es) (all ∙ items) ∙ some (vec_items c.in_ok-listed.listed) more)
