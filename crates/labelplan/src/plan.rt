@@ -1,10 +1,15 @@
 // The plan at hand: a node store, read through its nodes.
+ghost use Rattle.std.specs.Prelude.{◌≡◌, ◌++◌, map, IfOk, OnOk, vec_items};
+ghost use Rattle.std.specs.List.{range_with_len};
+ghost use Rattle.index.specs.Table.{slot_at, labels_in, plan};
+
 use geometry::{Label, Rect};
 use image::ImageStore;
 use index::{NodeStore, SLOTS, Slot};
 use lattice::Lattice;
 use script::report::{node_line, push_line, slot_entry};
 use std::alloc::{AllocError, Global};
+use std::array;
 
 pub mod store;
 
@@ -17,61 +22,68 @@ pub enum Plan<G, I> {
 // What the program's commands make.
 pub type MapPlan = Plan<Lattice, ImageStore>;
 
+// The slots of the open node.
+fn open_slots<S: NodeStore>(store: &S) -> [Slot; SLOTS]
+    ensures { result ≡ map (slot_at (S.table store.now) (S.opened store.now)) (range_with_len 0 SLOTS) }
+{
+    array::from_fn(|j| store.slot(j))
+}
 
-// Adds the labels of the open node.
-fn add_labels<S: NodeStore>(store: &S, labels: &mut Vec<Label>) -> Result<(), AllocError> {
-    for j in 0..SLOTS {
-        if let Slot::Holds(label) = store.slot(j) {
-            labels.push(label)?;
+// Adds the labels of a node.
+fn add_labels(slots: &[Slot], labels: &mut Vec<Label>) -> Result<(), AllocError>
+    ensures { OnOk result (vec_items labels.new ≡ vec_items labels.old ++ labels_in slots.now) }
+{
+    for slot in slots {
+        if let Slot::Holds(label) = slot {
+            labels.push(*label)?;
         }
     }
     Ok(())
 }
 
 // The labels of a store, from node to node.
-pub fn labels_of<S: NodeStore>(heap: Global, store: &mut S) -> Result<Vec<Label>, AllocError> {
+pub fn labels_of<S: NodeStore>(heap: Global, store: &mut S) -> Result<Vec<Label>, AllocError>
+    ensures table { S.table store.new ≡ S.table store.old }
+    ensures labels { IfOk result (λ labels. vec_items labels ≡ plan (S.table store.old)) }
+{
     let mut labels = Vec::new(heap);
     store.zero();
     for i in 0..store.node_count() {
-        if store.open(i).is_err() {
-            break;
-        }
-        add_labels(store, &mut labels)?;
+        // Of 300 nodes at most, the meter can count them all.
+        let Ok(()) = store.open(i) else {
+            unreachable!()
+        };
+        add_labels(&open_slots(store), &mut labels)?;
     }
     Ok(labels)
 }
 
-// Whether the open node has a branch.
-fn is_inner<S: NodeStore>(store: &S) -> bool {
-    for j in 0..SLOTS {
-        if let Slot::Leads(_, _) = store.slot(j) {
-            return true;
-        }
-    }
-    false
+// Whether a node has a branch.
+fn is_inner(slots: &[Slot]) -> bool {
+    slots.iter().any(|slot| matches!(slot, Slot::Leads(_, _)))
 }
 
-// Notes the boxes of the nodes that the open node leads to.
-fn note_boxes<S: NodeStore>(store: &S, boxes: &mut Vec<Rect>) {
-    for j in 0..SLOTS {
-        if let Slot::Leads(around, node) = store.slot(j) {
-            if let Some(place) = boxes.get_mut(node) {
-                *place = around;
+// Notes the boxes of the nodes that a node leads to.
+fn note_boxes(slots: &[Slot], boxes: &mut [Rect]) {
+    for slot in slots {
+        if let Slot::Leads(around, node) = slot {
+            if let Some(place) = boxes.get_mut(*node) {
+                *place = *around;
             }
         }
     }
 }
 
-// The line of the open node, which has that number and that box.
-fn open_node<S: NodeStore>(
+// The line of a node, which has that number and that box.
+fn node_of(
     heap: Global,
-    store: &S,
+    slots: &[Slot],
     number: usize,
     around: Rect,
 ) -> Result<String, AllocError> {
-    let mut line = node_line(heap, number, is_inner(store), around)?;
-    for j in 0..SLOTS {
-        line.push_str(slot_entry(heap, j, store.slot(j))?.as_str())?;
+    let mut line = node_line(heap, number, is_inner(slots), around)?;
+    for (j, slot) in slots.iter().enumerate() {
+        line.push_str(slot_entry(heap, j, *slot)?.as_str())?;
     }
     Ok(line)
 }
@@ -86,9 +98,10 @@ pub fn nodes_of<S: NodeStore>(heap: Global, store: &mut S) -> Result<String, All
         if store.open(i).is_err() {
             break;
         }
+        let slots = open_slots(store);
         let around = boxes.get(i).copied().unwrap_or(root);
-        push_line(&mut lines, open_node(heap, store, i, around)?.as_str())?;
-        note_boxes(store, &mut boxes);
+        push_line(&mut lines, node_of(heap, &slots, i, around)?.as_str())?;
+        note_boxes(&slots, &mut boxes);
     }
     Ok(lines)
 }
