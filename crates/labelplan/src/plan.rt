@@ -49,7 +49,7 @@ pub fn labels_of<S: NodeStore>(heap: Global, store: &mut S) -> Result<Vec<Label>
     let mut labels = Vec::new(heap);
     store.zero();
     for i in 0..store.node_count() {
-        // Of 300 nodes at most, the meter can count them all.
+        // There are at most 300 nodes, which the meter can count.
         let Ok(()) = store.open(i) else {
             unreachable!()
         };
@@ -89,15 +89,17 @@ fn node_of(
 }
 
 // A line for each node of a store. A branch leads to a greater node, whose box is known when its turn comes.
-pub fn nodes_of<S: NodeStore>(heap: Global, store: &mut S) -> Result<String, AllocError> {
+pub fn nodes_of<S: NodeStore>(heap: Global, store: &mut S) -> Result<String, AllocError>
+    ensures { S.table store.new ≡ S.table store.old }
+{
     let root = store.root_box();
     let mut boxes = vec![in heap; root; store.node_count()]?;
     let mut lines = String::new(heap);
     store.zero();
     for i in 0..store.node_count() {
-        if store.open(i).is_err() {
-            break;
-        }
+        let Ok(()) = store.open(i) else {
+            unreachable!()
+        };
         let slots = open_slots(store);
         let around = boxes.get(i).copied().unwrap_or(root);
         push_line(&mut lines, node_of(heap, &slots, i, around)?.as_str())?;

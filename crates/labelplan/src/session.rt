@@ -6,10 +6,10 @@ use geometry::Label;
 use image::ImageStore;
 use lattice::Lattice;
 use listing::{Failure, LabelList, nearest_of};
-use measure::{Straight, Street, Tile};
+use measure::{Measure, Straight, Street, Tile};
 use script::Command;
 use script::command::WorkList;
-use script::report::{label_lines, refused, row};
+use script::report::{Shown, label_lines, refused, row};
 use std::alloc::{AllocError, Global};
 use std::fs;
 
@@ -145,13 +145,24 @@ impl<'a> Session<'a> {
     }
 }
 
-// A row of the nearest labels for each measure.
+// The row of the labels that are nearest by a measure.
+fn row_by<M: Measure<Distance: Shown>>(
+    heap: Global,
+    name: &str,
+    measure: &M,
+    labels: &[Label],
+    x: i32,
+    y: i32,
+    k: u32,
+) -> Result<String, Failure> {
+    let found = nearest_of(heap, labels, measure, x, y, k)?;
+    Ok(row(heap, name, found.as_slice())?)
+}
+
+// A row for each measure.
 fn rows(heap: Global, labels: &[Label], x: i32, y: i32, k: u32) -> Result<String, Failure> {
-    let straight = nearest_of(heap, labels, &Straight, x, y, k)?;
-    let street = nearest_of(heap, labels, &Street, x, y, k)?;
-    let tile = nearest_of(heap, labels, &Tile, x, y, k)?;
-    let straight = row(heap, "straight", straight.as_slice())?;
-    let street = row(heap, "street", street.as_slice())?;
-    let tile = row(heap, "tile", tile.as_slice())?;
+    let straight = row_by(heap, "straight", &Straight, labels, x, y, k)?;
+    let street = row_by(heap, "street", &Street, labels, x, y, k)?;
+    let tile = row_by(heap, "tile", &Tile, labels, x, y, k)?;
     Ok(format!(in heap; "{straight}\n{street}\n{tile}")?)
 }
