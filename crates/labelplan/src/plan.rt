@@ -1,7 +1,9 @@
 // The plan at hand: a node store, read through its nodes.
-ghost use Rattle.std.specs.Prelude.{◌≡◌, ◌++◌, map, IfOk, OnOk, vec_items};
+ghost use Rattle.std.specs.Prelude.{◌≡◌, ◌++◌, map, not, IfOk, OnOk, string_bytes, vec_items};
 ghost use Rattle.std.specs.List.{range_with_len};
 ghost use Rattle.index.specs.Table.{slot_at, labels_in, plan};
+ghost use Rattle.index.specs.Laws.{is_leaf};
+ghost use Rattle.labelplan.specs.Nodes.{node_text};
 
 use geometry::{Label, Rect};
 use image::ImageStore;
@@ -59,7 +61,9 @@ pub fn labels_of<S: NodeStore>(heap: Global, store: &mut S) -> Result<Vec<Label>
 }
 
 // Whether a node has a branch.
-fn is_inner(slots: &[Slot]) -> bool {
+fn is_inner(slots: &[Slot]) -> bool
+    ensures { result ≡ not (is_leaf slots.now) }
+{
     slots.iter().any(|slot| matches!(slot, Slot::Leads(_, _)))
 }
 
@@ -75,12 +79,9 @@ fn note_boxes(slots: &[Slot], boxes: &mut [Rect]) {
 }
 
 // The line of a node, which has that number and that box.
-fn node_of(
-    heap: Global,
-    slots: &[Slot],
-    number: usize,
-    around: Rect,
-) -> Result<String, AllocError> {
+fn node_of(heap: Global, slots: &[Slot], number: usize, around: Rect) -> Result<String, AllocError>
+    ensures { IfOk result (λ line. string_bytes line ≡ node_text number slots.now around) }
+{
     let mut line = node_line(heap, number, is_inner(slots), around)?;
     for (j, slot) in slots.iter().enumerate() {
         line.push_str(slot_entry(heap, j, *slot)?.as_str())?;

@@ -1,3 +1,8 @@
+ghost use Rattle.std.specs.Prelude.{◌≡◌, ◌++◌, IfOk, string_bytes};
+ghost use Rattle.std.specs.List.{flat_map};
+ghost use Rattle.geometry.specs.Plane.{place_at};
+ghost use Rattle.listing.specs.Neighbours.{listing};
+ghost use Rattle.script.specs.Report.{entry_of};
 ghost use Rattle.labelplan.specs.Commands.{IsObeyed};
 
 use crate::command::parse;
@@ -154,7 +159,9 @@ fn row_by<M: Measure<Distance: Shown>>(
     x: i32,
     y: i32,
     k: u32,
-) -> Result<String, Failure> {
+) -> Result<String, Failure>
+    ensures { IfOk result (λ row. string_bytes row ≡ name.now ++ flat_map (entry_of M.Distance.Shown.shown) (listing M.Distance.Ranked.precedes (M.dist measure.now (place_at x y)) k labels.now)) }
+{
     let found = nearest_of(heap, labels, measure, x, y, k)?;
     Ok(row(heap, name, found.as_slice())?)
 }

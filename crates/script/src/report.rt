@@ -9,7 +9,8 @@ use index::Slot;
 use listing::Found;
 use std::alloc::{AllocError, Global};
 
-// A distance, as a row shows it.
+// A distance, as a row shows it. Each number type has an impl of its own: a pair has no Display, and an impl for every
+// type with Display would overlap with that of the pair.
 pub trait Shown {
     ghost shown: { Self → List ℕ };
 
