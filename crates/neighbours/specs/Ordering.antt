@@ -51,7 +51,7 @@ subject-decides (OfNode m) (OfLabel l) h k = absurd (true≢false h)
 subject-decides (OfLabel l) (OfNode n) h k = absurd (true≢false k)
 subject-decides (OfLabel l) (OfLabel m) h k = ap (λ i. OfLabel i) (label-order.decides l m h k)
 
-subject-order : Order subject_before
+pub subject-order : Order subject_before
 subject-order = record { never = subject-never; chain = subject-chain; decides = subject-decides }
 
 pub item-order : {D : Type 0} {lt : D → D → Bool} → Order lt → Order (ahead lt)

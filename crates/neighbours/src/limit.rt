@@ -4,7 +4,7 @@ ghost use Rattle.neighbours.specs.Limits.{admits};
 use queue::Ranked;
 
 // How far a search goes: anywhere, up to a distance and what ties with it, or only before a distance.
-#[derive(Clone, Copy)]
+#[derive(Clone, Copy, Debug, PartialEq, Eq)]
 pub enum Limit<D> {
     Anywhere,
     UpTo(D),
