@@ -1,13 +1,15 @@
 -- What the refusals of a query come to.
-use Rattle.std.proofs.Common.{◌≡◌, ℕ, ◌+◌, ◌≤◌, Bool, true, false, ◌&&◌, leb, List, ◌++◌, length, take, drop, ℤ, IfOk, Some, None, Ok, Err, Option, Result, sym, refl, ap, ◌∙◌, subst, ⊎_elim, arith}
+use Rattle.std.proofs.Common.{◌≡◌, ℕ, ◌+◌, ◌≤◌, Bool, true, false, ◌&&◌, leb, List, [], ◌∷◌, ◌++◌, length, take, drop, ℤ, IfOk, Some, None, Ok, Err, Option, Result, sym, refl, ap, ◌∙◌, subst, ⊎_elim, arith}
+use Rattle.std.proofs.Math.Bool.{and-true}
 use Rattle.std.proofs.lemmas.Bool.{cases_Bool, cond-true, cond-false, leb-true}
 use Rattle.geometry.specs.declared.place.Place.{Place}
 use Rattle.geometry.specs.declared.refusal.Refusal.{Refusal}
 use Rattle.geometry.specs.declared.refusal.Reason.TheVariants.{ShortWorkList, BadPlace}
 use Rattle.geometry.specs.Refusals.{refusal}
 use Rattle.geometry.specs.Plane.{in_range, place_at}
+use Rattle.listing.specs.Lists.{counted}
 use Rattle.neighbours.specs.Queries.{refused, outcome, filled}
-use Rattle.search.specs.Answers.{admitted, concluded, fitting}
+use Rattle.search.specs.Answers.{all_counted, checked, admitted, concluded, fitting}
 
 some≢none : {X : Type 0} (x : X) → Some x ≡ None → ⊥
 some≢none x h = let z : ◌≡◌ {A = ℕ} 0 1 = cc in omega arith
@@ -22,6 +24,21 @@ admitted-told None x y p h = (refl, unok p (place_at x y) h)
   where
     unok : (a b : Place) → ◌≡◌ {A = Result Place Refusal} (Ok a) (Ok b) → a ≡ b
     unok a b h = cc
+
+-- what the check of the counts tells
+pub uncounted : (counts : Bool) (x y : ℤ) (needed shortest : ℕ) (e : Refusal) → Err e ≡ checked counts → refused counts x y needed shortest ≡ Some e
+uncounted true x y needed shortest e h = let z : ◌≡◌ {A = ℕ} 0 1 = cc in absurd (omega arith)
+uncounted false x y needed shortest e h = cc
+
+pub counts-fine : (counts : Bool) (u : Unit) → Ok u ≡ checked counts → counts ≡ true
+counts-fine true u h = refl
+counts-fine false u h = let z : ◌≡◌ {A = ℕ} 0 1 = cc in absurd (omega arith)
+
+pub one-count : (k : ℕ) → all_counted (k ∷ []) ≡ counted k
+one-count k = and-true (counted k)
+
+pub two-counts : (k1 k2 : ℕ) → all_counted (k1 ∷ (k2 ∷ [])) ≡ (counted k1 && counted k2)
+two-counts k1 k2 = ap (λ b. counted k1 && b) (and-true (counted k2))
 
 -- a query that is not refused has its counts and its room
 pub not-refused : (counts : Bool) (x y : ℤ) (needed shortest : ℕ) → refused counts x y needed shortest ≡ None → (counts ≡ true) × (needed ≤ shortest)

@@ -1,9 +1,11 @@
 -- How a query comes to its answers.
 use Rattle.std.specs.Prelude.{ℕ, ◌+◌, ◌≤◌, Bool, true, cond, List, length, ℤ, Some, None, Ok, Err, Option, Result, nat_le, nat_lt}
+use Rattle.std.specs.List.{list_all}
 use Rattle.geometry.specs.declared.refusal.Refusal.{Refusal}
-use Rattle.geometry.specs.declared.refusal.Reason.TheVariants.{ShortAnswerList}
+use Rattle.geometry.specs.declared.refusal.Reason.TheVariants.{BadCount, ShortAnswerList}
 use Rattle.geometry.specs.Refusals.{refusal}
 use Rattle.geometry.specs.Plane.{place_at}
+use Rattle.listing.specs.Lists.{counted}
 use Rattle.index.specs.Table.{Table, plan}
 use Rattle.neighbours.specs.Ranking.{Ranking}
 use Rattle.neighbours.specs.Neighbours.{others, confirmed, nearest_answers, mutual_answers}
@@ -12,6 +14,14 @@ use Rattle.neighbours.specs.Scene.{work_places}
 use Rattle.geometry.specs.declared.place.Place.{Place}
 use Rattle.geometry.specs.declared.label.Label.{Label}
 use Rattle.neighbours.specs.declared.told.Told.{Told}
+
+-- all of these counts are from 1 to 64
+abbrev pub all_counted : List ℕ → Bool
+all_counted = list_all counted
+
+-- nothing where counts are in range, and else their refusal
+abbrev pub checked : Bool → Result Unit Refusal
+checked fine = cond fine (Ok tt) (Err (refusal BadCount 0))
 
 -- the place of a query, or its refusal
 abbrev pub admitted : Option Refusal → ℤ → ℤ → Result Place Refusal

@@ -1,2 +1,4 @@
 pub mod Entering
+pub mod Sights
 pub mod Answers
+pub mod Asking

@@ -3,96 +3,91 @@ ghost use Rattle.std.specs.Prelude.{◌≡◌, ◌+◌, ◌<◌, ◌≤◌, leng
 ghost use Rattle.queue.specs.Shape.{Heap};
 ghost use Rattle.index.specs.Table.{node_count, node_at};
 ghost use Rattle.neighbours.specs.Items.{ahead};
-ghost use Rattle.neighbours.specs.Scene.{item_of, items_in, listed};
+ghost use Rattle.neighbours.specs.Scene.{listed};
 ghost use Rattle.search.specs.Entering.{open_slots, Entered};
+ghost use Rattle.search.specs.Sights.{item_seen, items_seen};
 
-use index::{NodeStore, Slot};
+use crate::sight::Sight;
+use index::{NodeStore, SLOTS, Slot};
 use measure::Measure;
-use neighbours::{Item, Subject, View};
+use neighbours::{Item, Subject};
 use queue::{Ranked, push};
 
-// How many slots a node has.
-const SLOTS: usize = 12;
-
-// The item of a slot, if it has one that the view shows.
-fn item_of<M: Measure>(measure: &M, view: View, slot: Slot) -> Option<Item<M::Distance>>
-    ensures { result ≡ item_of (M.dist measure.now view.from) (M.bound measure.now view.from) view slot }
-{
-    match slot {
-        Slot::Empty => None,
-        Slot::Holds(label) => {
-            if !view.shows(label.number()) {
-                return None;
+// Here and in what calls these, the first `len` of the lent `items` are the queue, a heap that is changed in place: that
+// the caller lends the memory is a rule of the project.
+impl<'a, M: Measure> Sight<'a, M> {
+    // The item of a slot, if it has one that the view shows.
+    fn item_of(&self, slot: Slot) -> Option<Item<M::Distance>>
+        ensures { result ≡ item_seen M.dist M.bound self.now slot }
+    {
+        match slot {
+            Slot::Empty => None,
+            Slot::Holds(label) => {
+                if !self.view.shows(label.number()) {
+                    return None;
+                }
+                Some(Item {
+                    distance: self.measure.distance(self.view.from, label.place()),
+                    subject: Subject::OfLabel(label),
+                })
             }
-            Some(Item {
-                distance: measure.distance(view.from, label.place()),
-                subject: Subject::OfLabel(label),
-            })
+            Slot::Leads(around, node) => Some(Item {
+                distance: self.measure.near(self.view.from, &around),
+                subject: Subject::OfNode(node),
+            }),
         }
-        Slot::Leads(around, node) => Some(Item {
-            distance: measure.near(view.from, &around),
-            subject: Subject::OfNode(node),
-        }),
     }
-}
 
-// Pushes the item of a slot, and gives the length of the queue then.
-fn push_slot<M: Measure>(
-    measure: &M,
-    view: View,
-    slot: Slot,
-    items: &mut [Item<M::Distance>],
-    len: usize,
-) -> usize
-    requires room { len + length (listed (item_of (M.dist measure.now view.from) (M.bound measure.now view.from) view slot)) ≤ length items.old }
-    requires shape { Heap (ahead M.Distance.Ranked.precedes) items.old len }
-    ensures { Entered (ahead M.Distance.Ranked.precedes) items.old items.new len result (listed (item_of (M.dist measure.now view.from) (M.bound measure.now view.from) view slot)) }
-{
-    match item_of(measure, view, slot) {
-        Some(item) => push(items, len, item).unwrap_or(len),
-        None => len,
+    // Pushes the item of a slot, and gives the length of the queue then.
+    fn push_slot(&self, slot: Slot, items: &mut [Item<M::Distance>], len: usize) -> usize
+        requires room { len + length (listed (item_seen M.dist M.bound self.now slot)) ≤ length items.old }
+        requires shape { Heap (ahead M.Distance.Ranked.precedes) items.old len }
+        ensures { Entered (ahead M.Distance.Ranked.precedes) items.old items.new len result (listed (item_seen M.dist M.bound self.now slot)) }
+    {
+        match self.item_of(slot) {
+            Some(item) => push(items, len, item).unwrap_or(len),
+            None => len,
+        }
     }
-}
 
-// Pushes the items of the open node, and gives the length of the queue then.
-fn push_items<S: NodeStore, M: Measure>(
-    store: &S,
-    measure: &M,
-    view: View,
-    items: &mut [Item<M::Distance>],
-    len: usize,
-) -> usize
-    requires room { len + length (items_in (M.dist measure.now view.from) (M.bound measure.now view.from) view (open_slots (S.table store.now) (S.opened store.now))) ≤ length items.old }
-    requires shape { Heap (ahead M.Distance.Ranked.precedes) items.old len }
-    ensures { Entered (ahead M.Distance.Ranked.precedes) items.old items.new len result (items_in (M.dist measure.now view.from) (M.bound measure.now view.from) view (open_slots (S.table store.now) (S.opened store.now))) }
-{
-    let mut count = len;
-    for j in 0..SLOTS {
-        count = push_slot(measure, view, store.slot(j), items, count);
+    // Pushes the items of the open node, and gives the length of the queue then.
+    fn push_items<S: NodeStore>(
+        &self,
+        store: &S,
+        items: &mut [Item<M::Distance>],
+        len: usize,
+    ) -> usize
+        requires room { len + length (items_seen M.dist M.bound self.now (open_slots (S.table store.now) (S.opened store.now))) ≤ length items.old }
+        requires shape { Heap (ahead M.Distance.Ranked.precedes) items.old len }
+        ensures { Entered (ahead M.Distance.Ranked.precedes) items.old items.new len result (items_seen M.dist M.bound self.now (open_slots (S.table store.now) (S.opened store.now))) }
+    {
+        let mut count = len;
+        for j in 0..SLOTS {
+            count = self.push_slot(store.slot(j), items, count);
+        }
+        count
     }
-    count
-}
 
-// Opens a node and pushes its items, and gives the length of the queue then.
-pub(crate) fn open_node<S: NodeStore, M: Measure>(
-    store: &mut S,
-    measure: &M,
-    view: View,
-    node: usize,
-    items: &mut [Item<M::Distance>],
-    len: usize,
-) -> usize
-    requires node { node < node_count (S.table store.old) }
-    requires meter { S.metered store.old < 2000000 }
-    requires room { len + length (items_in (M.dist measure.now view.from) (M.bound measure.now view.from) view (node_at (S.table store.old) node)) ≤ length items.old }
-    requires shape { Heap (ahead M.Distance.Ranked.precedes) items.old len }
-    ensures table { S.table store.new ≡ S.table store.old }
-    ensures frames { S.frames store.new ≡ S.frames store.old }
-    ensures metered { S.metered store.new ≡ S.metered store.old + 1 }
-    ensures entered { Entered (ahead M.Distance.Ranked.precedes) items.old items.new len result (items_in (M.dist measure.now view.from) (M.bound measure.now view.from) view (node_at (S.table store.old) node)) }
-{
-    if store.open(node).is_err() {
-        unreachable();
+    // Opens a node and pushes its items, and gives the length of the queue then.
+    pub fn open_node<S: NodeStore>(
+        &self,
+        store: &mut S,
+        node: usize,
+        items: &mut [Item<M::Distance>],
+        len: usize,
+    ) -> usize
+        requires node { node < node_count (S.table store.old) }
+        requires meter { S.metered store.old < 2000000 }
+        requires room { len + length (items_seen M.dist M.bound self.now (node_at (S.table store.old) node)) ≤ length items.old }
+        requires shape { Heap (ahead M.Distance.Ranked.precedes) items.old len }
+        ensures table { S.table store.new ≡ S.table store.old }
+        ensures frames { S.frames store.new ≡ S.frames store.old }
+        ensures metered { S.metered store.new ≡ S.metered store.old + 1 }
+        ensures entered { Entered (ahead M.Distance.Ranked.precedes) items.old items.new len result (items_seen M.dist M.bound self.now (node_at (S.table store.old) node)) }
+    {
+        if store.open(node).is_err() {
+            unreachable();
+        }
+        self.push_items(store, items, len)
     }
-    push_items(store, measure, view, items, len)
 }

@@ -1,13 +1,12 @@
 // The answers of a query, in order.
 ghost use Rattle.std.specs.Prelude.{◌≡◌, ◌+◌, ◌≤◌, true, ◌++◌, length, take, drop, if◌then◌else◌, Some, None, nat_eq, slice_set};
 ghost use Rattle.neighbours.specs.declared.limit.Limit.TheVariants.{UpTo};
-ghost use Rattle.neighbours.specs.Ranking.{ranking};
 ghost use Rattle.neighbours.specs.Scene.{work_places};
-ghost use Rattle.search.specs.Answers.{answers_of, openings_of, Roomy, put_at, fitting};
+ghost use Rattle.search.specs.Answers.{Roomy, put_at, fitting};
+ghost use Rattle.search.specs.Asking.{ranks, answers_to, openings_for};
 
-use crate::checking::is_answer;
-use crate::walking::{next_label, start};
-use geometry::Place;
+use crate::query::Query;
+use crate::sight::Sight;
 use index::NodeStore;
 use measure::Measure;
 use neighbours::{Item, Limit, View};
@@ -36,53 +35,45 @@ fn put_answer(answers: &mut [u32], count: usize, number: u32) -> Option<usize>
     Some(count + 1)
 }
 
-// Puts the answers into the list, in order, and gives their count; `None` where they do not fit.
-pub(crate) fn gather<S: NodeStore, M: Measure>(
-    store: &mut S,
-    measure: &M,
-    from: Place,
-    own: Option<u32>,
-    k: u32,
-    confirming: Option<u32>,
-    work: &mut [Item<M::Distance>],
-    second: &mut [Item<M::Distance>],
-    answers: &mut [u32],
-) -> Option<usize>
-    requires count { 1 ≤ k }
-    requires room { work_places (S.table store.old) ≤ length work.old }
-    requires second { Roomy (S.table store.old) confirming (length second.old) }
-    requires meter { S.metered store.old ≤ 900000 }
-    ensures table { S.table store.new ≡ S.table store.old }
-    ensures frames { S.frames store.new ≡ S.frames store.old }
-    ensures told { result ≡ fitting (answers_of (ranking M.Distance.Ranked.precedes (M.dist measure.now) (M.bound measure.now)) (S.table store.old) from own k confirming) (length answers.old) }
-    ensures answers { answers.new ≡ take (length answers.old) (answers_of (ranking M.Distance.Ranked.precedes (M.dist measure.now) (M.bound measure.now)) (S.table store.old) from own k confirming) ++ drop (length (answers_of (ranking M.Distance.Ranked.precedes (M.dist measure.now) (M.bound measure.now)) (S.table store.old) from own k confirming)) answers.old }
-    ensures metered { elim result [ Some n ↦ S.metered store.new ≡ S.metered store.old + openings_of (ranking M.Distance.Ranked.precedes (M.dist measure.now) (M.bound measure.now)) (S.table store.old) from own k confirming | None ↦ Unit {0} ] }
-{
-    let view = View {
-        from,
-        own,
-        candidate: None,
-    };
-    let mut limit = Limit::Anywhere;
-    let mut came: u32 = 0;
-    let mut count = 0;
-    let mut len = start(store, measure, view, work);
-    while let Some(next) = next_label(store, measure, view, limit, work, len) {
-        came += 1;
-        limit = limit_after(limit, came, k, next.distance);
-        len = next.waiting;
-        if is_answer(
-            store,
-            measure,
-            from,
-            own,
-            confirming,
-            next.label,
-            next.distance,
-            second,
-        ) {
-            count = put_answer(answers, count, next.label.number())?;
+impl<'a, M: Measure> Query<'a, M> {
+    // Puts the answers into the list, in order, and gives their count; `None` where they do not fit.
+    pub fn gather<S: NodeStore>(
+        &self,
+        store: &mut S,
+        work: &mut [Item<M::Distance>],
+        second: &mut [Item<M::Distance>],
+        answers: &mut [u32],
+    ) -> Option<usize>
+        requires count { 1 ≤ self.now.k }
+        requires room { work_places (S.table store.old) ≤ length work.old }
+        requires second { Roomy (S.table store.old) self.now.confirming (length second.old) }
+        requires meter { S.metered store.old ≤ 900000 }
+        ensures table { S.table store.new ≡ S.table store.old }
+        ensures frames { S.frames store.new ≡ S.frames store.old }
+        ensures told { result ≡ fitting (answers_to (ranks M.Distance.Ranked.precedes M.dist M.bound self.now) (S.table store.old) self.now) (length answers.old) }
+        ensures answers { let ns = answers_to (ranks M.Distance.Ranked.precedes M.dist M.bound self.now) (S.table store.old) self.now in answers.new ≡ take (length answers.old) ns ++ drop (length ns) answers.old }
+        ensures metered { elim result [ Some n ↦ S.metered store.new ≡ S.metered store.old + openings_for (ranks M.Distance.Ranked.precedes M.dist M.bound self.now) (S.table store.old) self.now | None ↦ Unit {0} ] }
+    {
+        let sight = Sight {
+            measure: self.measure,
+            view: View {
+                from: self.from,
+                own: self.own,
+                candidate: None,
+            },
+        };
+        let mut limit = Limit::Anywhere;
+        let mut came: u32 = 0;
+        let mut count = 0;
+        let mut len = sight.start(store, work);
+        while let Some(next) = sight.next_label(store, limit, work, len) {
+            came += 1;
+            limit = limit_after(limit, came, self.k, next.distance);
+            len = next.waiting;
+            if self.is_answer(store, next, second) {
+                count = put_answer(answers, count, next.label.number())?;
+            }
         }
+        Some(count)
     }
-    Some(count)
 }

@@ -5,6 +5,8 @@ mod checking;
 mod entering;
 mod gathering;
 pub mod queries;
+mod query;
+mod sight;
 mod walking;
 
 pub use neighbours::Told;

@@ -1,7 +1,6 @@
 // The two queries.
-ghost use Rattle.std.specs.Prelude.{◌≡◌, ◌≤◌, ◌&&◌, length, IfOk};
+ghost use Rattle.std.specs.Prelude.{◌≡◌, ◌≤◌, true, length, IfOk};
 ghost use Rattle.geometry.specs.Plane.{place_at};
-ghost use Rattle.listing.specs.Lists.{counted};
 ghost use Rattle.index.specs.Laws.{Inside};
 ghost use Rattle.neighbours.specs.Ranking.{ranking};
 ghost use Rattle.neighbours.specs.Neighbours.{nearest_answers, mutual_answers};
@@ -9,9 +8,9 @@ ghost use Rattle.neighbours.specs.Reach.{nearest_openings, mutual_openings};
 ghost use Rattle.neighbours.specs.Links.{Links};
 ghost use Rattle.neighbours.specs.Scene.{work_places, spare_item};
 ghost use Rattle.neighbours.specs.Queries.{refused, refused_nearest, refused_mutual, outcome, filled};
-ghost use Rattle.search.specs.Answers.{concluded, admitted};
+ghost use Rattle.search.specs.Answers.{all_counted, checked, concluded, admitted};
 
-use crate::gathering::gather;
+use crate::query::Query;
 use geometry::{Place, Reason, Refusal};
 use index::NodeStore;
 use measure::Measure;
@@ -35,36 +34,23 @@ pub fn spare_item<M: Measure>(measure: &M) -> Item<M::Distance>
     }
 }
 
-// Whether a count is from 1 to 64.
-fn is_count(k: u32) -> bool
-    ensures { result ≡ counted k }
+// The refusal of counts that are not all from 1 to 64.
+fn check_counts(counts: &[u32]) -> Result<(), Refusal>
+    ensures { result ≡ checked (all_counted counts.now) }
 {
-    k >= 1 && k <= 64
-}
-
-// Whether both counts are.
-fn are_counts(k1: u32, k2: u32) -> bool
-    ensures { result ≡ (counted k1 && counted k2) }
-{
-    is_count(k1) && is_count(k2)
-}
-
-// The place of a query, or its refusal: of the counts first, then of the place, then of the shortest work list.
-fn admit<S: NodeStore>(
-    store: &S,
-    counts: bool,
-    x: i32,
-    y: i32,
-    shortest: usize,
-) -> Result<Place, Refusal>
-    ensures { result ≡ admitted (refused counts x y (work_places (S.table store.now)) shortest) x y }
-{
-    if !counts {
-        return Err(Refusal {
-            reason: Reason::BadCount,
-            place: 0,
-        });
+    if counts.iter().all(|k| (1..=64).contains(k)) {
+        return Ok(());
     }
+    Err(Refusal {
+        reason: Reason::BadCount,
+        place: 0,
+    })
+}
+
+// The place of a query whose counts are in range, or its refusal: of the place first, then of the shortest work list.
+fn admit<S: NodeStore>(store: &S, x: i32, y: i32, shortest: usize) -> Result<Place, Refusal>
+    ensures { result ≡ admitted (refused true x y (work_places (S.table store.now)) shortest) x y }
+{
     let from = Place::new(x, y)?;
     let needed = work_places(store);
     if shortest < needed {
@@ -80,16 +66,14 @@ fn admit<S: NodeStore>(
 fn conclude<S: NodeStore>(store: &S, count: Option<usize>) -> Result<Told, Refusal>
     ensures { result ≡ concluded count (S.metered store.now) }
 {
-    match count {
-        Some(count) => Ok(Told {
-            count,
-            opened: store.meter(),
-        }),
-        None => Err(Refusal {
-            reason: Reason::ShortAnswerList,
-            place: 0,
-        }),
-    }
+    let count = count.ok_or(Refusal {
+        reason: Reason::ShortAnswerList,
+        place: 0,
+    })?;
+    Ok(Told {
+        count,
+        opened: store.meter(),
+    })
 }
 
 // The labels near to a place: those than which fewer than `k` are nearer, by distance and then by number. The label of
@@ -113,10 +97,17 @@ pub fn nearest<S: NodeStore, M: Measure>(
     ensures bounded { S.metered store.new ≤ 2000000 }
     ensures work { length work.new ≡ length work.old }
 {
-    let from = admit(store, is_count(k), x, y, work.len())?;
+    check_counts(&[k])?;
+    let query = Query {
+        measure,
+        from: admit(store, x, y, work.len())?,
+        own,
+        k,
+        confirming: None,
+    };
     store.zero();
     let mut none: [Item<M::Distance>; 0] = [];
-    let count = gather(store, measure, from, own, k, None, work, &mut none, answers);
+    let count = query.gather(store, work, &mut none, answers);
     conclude(store, count)
 }
 
@@ -144,19 +135,16 @@ pub fn mutual<S: NodeStore, M: Measure>(
     ensures bounded { S.metered store.new ≤ 2000000 }
     ensures work { (length work.new ≡ length work.old) × (length second.new ≡ length second.old) }
 {
+    check_counts(&[k1, k2])?;
     let shortest = work.len().min(second.len());
-    let from = admit(store, are_counts(k1, k2), x, y, shortest)?;
-    store.zero();
-    let count = gather(
-        store,
+    let query = Query {
         measure,
-        from,
+        from: admit(store, x, y, shortest)?,
         own,
-        k1,
-        Some(k2),
-        work,
-        second,
-        answers,
-    );
+        k: k1,
+        confirming: Some(k2),
+    };
+    store.zero();
+    let count = query.gather(store, work, second, answers);
     conclude(store, count)
 }

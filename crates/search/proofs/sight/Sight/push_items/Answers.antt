@@ -5,7 +5,7 @@ use Rattle.neighbours.specs.Scene.{item_of, items_in, listed}
 use Rattle.neighbours.specs.Ordering.{item-order}
 use Rattle.search.specs.Entering.{open_slots, Entered}
 use Rattle.search.proofs.Queueing.{entered-none, entered-more, items_more, items-room, slot-open, few-slots}
-use Rattle.search.proofs.entering.push_items.Goals as goal
+use Rattle.search.proofs.sight.Sight.push_items.Goals as goal
 
 pub loop-j-init : goal.loop-j-init
 unfolding items_in
@@ -17,11 +17,11 @@ push_slot-count-requires g c =
     let m = g.M.Measure in
     let t = g.S.NodeStore.table a.store.now in
     let o = g.S.NodeStore.opened a.store.now in
-    let to = m.dist a.measure.now a.view.from in
-    let near = m.bound a.measure.now a.view.from in
+    let to = m.dist a.self.now.measure.now a.self.now.view.from in
+    let near = m.bound a.self.now.measure.now a.self.now.view.from in
     let is = c.slot.ensures ∙ slot-open t o c.loop-j.j in
     record {
-      room = omega (arith, c.requires.room, c.loop-j.invariant.many, items-room to near a.view (open_slots t o) c.loop-j.j, ap (λ s. length (listed (item_of to near a.view s))) is);
+      room = omega (arith, c.requires.room, c.loop-j.invariant.many, items-room to near a.self.now.view (open_slots t o) c.loop-j.j, ap (λ s. length (listed (item_of to near a.self.now.view s))) is);
       shape = c.loop-j.invariant.shape;
     }
 
@@ -32,14 +32,14 @@ loop-j-preserved g c =
     let m = g.M.Measure in
     let t = g.S.NodeStore.table a.store.now in
     let o = g.S.NodeStore.opened a.store.now in
-    let to = m.dist a.measure.now a.view.from in
-    let near = m.bound a.measure.now a.view.from in
+    let to = m.dist a.self.now.measure.now a.self.now.view.from in
+    let near = m.bound a.self.now.measure.now a.self.now.view.from in
     let slots = open_slots t o in
     let lt = ahead g.M.Distance.Ranked.precedes in
     let is = c.slot.ensures ∙ slot-open t o l.j in
-    let more = items_more to near a.view slots l.j ∙ ap (λ s. items_in to near a.view (take l.j slots) ++ listed (item_of to near a.view s)) (sym is) in
+    let more = items_more to near a.self.now.view slots l.j ∙ ap (λ s. items_in to near a.self.now.view (take l.j slots) ++ listed (item_of to near a.self.now.view s)) (sym is) in
     subst (Entered lt a.items.now c.push_slot-count.new.items a.len c.push_slot-count.result) (sym more)
-    (entered-more (item-order g.met.M.Distance.Ranked.ordered) a.items.now l.items c.push_slot-count.new.items a.len l.count c.push_slot-count.result (items_in to near a.view (take l.j slots)) (item_of to near a.view c.slot.result) l.invariant c.push_slot-count.ensures)
+    (entered-more (item-order g.met.M.Distance.Ranked.ordered) a.items.now l.items c.push_slot-count.new.items a.len l.count c.push_slot-count.result (items_in to near a.self.now.view (take l.j slots)) (item_of to near a.self.now.view c.slot.result) l.invariant c.push_slot-count.ensures)
 
 pub returns : goal.returns
 returns g c =
@@ -48,8 +48,8 @@ returns g c =
     let m = g.M.Measure in
     let t = g.S.NodeStore.table a.store.now in
     let o = g.S.NodeStore.opened a.store.now in
-    let to = m.dist a.measure.now a.view.from in
-    let near = m.bound a.measure.now a.view.from in
+    let to = m.dist a.self.now.measure.now a.self.now.view.from in
+    let near = m.bound a.self.now.measure.now a.self.now.view.from in
     let few = few-slots t o (g.met.S.NodeStore.lawful a.store.now) in
     let all : take l.j (open_slots t o) ≡ open_slots t o = take_all l.j (open_slots t o) (omega arith) in
-    subst (λ s. Entered (ahead g.M.Distance.Ranked.precedes) a.items.now l.items a.len l.count (items_in to near a.view s)) all l.invariant
+    subst (λ s. Entered (ahead g.M.Distance.Ranked.precedes) a.items.now l.items a.len l.count (items_in to near a.self.now.view s)) all l.invariant

@@ -6,15 +6,15 @@ use Rattle.neighbours.specs.Items.{ahead}
 use Rattle.neighbours.specs.Scene.{scene, node_item, left, Waiting}
 use Rattle.neighbours.proofs.Whole.{root-left, root-waits}
 use Rattle.search.proofs.Steps.{fair-scene}
-use Rattle.search.proofs.walking.start.Goals as goal
+use Rattle.search.proofs.sight.Sight.start.Goals as goal
 
 pub returns : goal.returns
 returns g c =
     let a = c.args in
     let m = g.M.Measure in
     let t = g.S.NodeStore.table a.store.now in
-    let s = scene g.M.Distance.Ranked.precedes t (m.dist a.measure.now) (m.bound a.measure.now) a.view in
-    let fair = fair-scene g.met.M.Distance.Ranked.ordered t (m.dist a.measure.now) (m.bound a.measure.now) a.view (g.met.M.Measure.below a.measure.now) (g.met.M.Measure.inner a.measure.now) (g.met.S.NodeStore.lawful a.store.now) in
+    let s = scene g.M.Distance.Ranked.precedes t (m.dist a.self.now.measure.now) (m.bound a.self.now.measure.now) a.self.now.view in
+    let fair = fair-scene g.met.M.Distance.Ranked.ordered t (m.dist a.self.now.measure.now) (m.bound a.self.now.measure.now) a.self.now.view (g.met.M.Measure.below a.self.now.measure.now) (g.met.M.Measure.inner a.self.now.measure.now) (g.met.S.NodeStore.lawful a.store.now) in
     let xs = c.push.new.items in
     let some : 0 < length a.items.now = omega (arith, c.requires) in
     let told : c.unwrap_or.result ≡ 1 = c.unwrap_or.ensures ∙ ap (λ o. unwrap_or o 0) (c.push.ensures.told ∙ cond-true (ltb 0 (length a.items.now)) (Some (0 + 1)) None (lt-ltb 0 (length a.items.now) some)) in

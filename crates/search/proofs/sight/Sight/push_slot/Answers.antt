@@ -5,7 +5,7 @@ use Rattle.neighbours.specs.Scene.{item_of, listed}
 use Rattle.neighbours.specs.Ordering.{item-order}
 use Rattle.search.specs.Entering.{Entered}
 use Rattle.search.proofs.Queueing.{entered-one}
-use Rattle.search.proofs.entering.push_slot.Goals as goal
+use Rattle.search.proofs.sight.Sight.push_slot.Goals as goal
 
 pub returns-in-Some : goal.returns-in-Some
 returns-in-Some g c =
@@ -13,7 +13,7 @@ returns-in-Some g c =
     let m = g.M.Measure in
     let lt = ahead g.M.Distance.Ranked.precedes in
     let x = c.in-Some.item in
-    let item = item_of (m.dist a.measure.now a.view.from) (m.bound a.measure.now a.view.from) a.view a.slot in
+    let item = item_of (m.dist a.self.now.measure.now a.self.now.view.from) (m.bound a.self.now.measure.now a.self.now.view.from) a.self.now.view a.slot in
     let is : item ≡ Some x = sym c.item_of.ensures ∙ c.in-Some.is in
     let room : a.len < length a.items.now = omega (arith, c.requires.room, ap (λ o. length (listed o)) is) in
     let more : c.unwrap_or.result ≡ a.len + 1 = c.unwrap_or.ensures ∙ ap (λ o. unwrap_or o a.len) (c.push.ensures.told ∙ cond-true (ltb a.len (length a.items.now)) (Some (a.len + 1)) None (lt-ltb a.len (length a.items.now) room)) in

@@ -5,7 +5,7 @@ use Rattle.neighbours.specs.Scene.{Scene, scene, left, Waiting}
 use Rattle.neighbours.specs.Walks.{Next}
 use Rattle.neighbours.proofs.Confirming.{Checked, begin, goes_on, stops-short, stops-full, checked-meter}
 use Rattle.search.proofs.Steps.{fair-scene}
-use Rattle.search.proofs.checking.few_nearer.Goals as goal
+use Rattle.search.proofs.sight.Sight.few_nearer.Goals as goal
 
 pub loop-init : goal.loop-init
 loop-init g c =
@@ -13,9 +13,9 @@ loop-init g c =
     let m = g.M.Measure in
     let store = g.S.NodeStore in
     let t = store.table a.store.now in
-    let sees : Table → Scene g.row.M-Distance.Denot = λ t. scene g.M.Distance.Ranked.precedes t (m.dist a.measure.now) (m.bound a.measure.now) a.view in
+    let sees : Table → Scene g.row.M-Distance.Denot = λ t. scene g.M.Distance.Ranked.precedes t (m.dist a.self.now.measure.now) (m.bound a.self.now.measure.now) a.self.now.view in
     let s = sees t in
-    let fair = fair-scene g.met.M.Distance.Ranked.ordered t (m.dist a.measure.now) (m.bound a.measure.now) a.view (g.met.M.Measure.below a.measure.now) (g.met.M.Measure.inner a.measure.now) (g.met.S.NodeStore.lawful a.store.now) in
+    let fair = fair-scene g.met.M.Distance.Ranked.ordered t (m.dist a.self.now.measure.now) (m.bound a.self.now.measure.now) a.self.now.view (g.met.M.Measure.below a.self.now.measure.now) (g.met.M.Measure.inner a.self.now.measure.now) (g.met.S.NodeStore.lawful a.store.now) in
     let m0 = store.metered a.store.now in
     (refl, refl, c.start-len.ensures.waiting, subst (λ l. Checked s a.end a.k 0 l m0 m0) (sym c.start-len.ensures.whole) (begin s fair a.end a.k m0))
 
@@ -25,9 +25,9 @@ next_label-requires g c =
     let m = g.M.Measure in
     let store = g.S.NodeStore in
     let t = store.table a.store.now in
-    let sees : Table → Scene g.row.M-Distance.Denot = λ t. scene g.M.Distance.Ranked.precedes t (m.dist a.measure.now) (m.bound a.measure.now) a.view in
+    let sees : Table → Scene g.row.M-Distance.Denot = λ t. scene g.M.Distance.Ranked.precedes t (m.dist a.self.now.measure.now) (m.bound a.self.now.measure.now) a.self.now.view in
     let s = sees t in
-    let fair = fair-scene g.met.M.Distance.Ranked.ordered t (m.dist a.measure.now) (m.bound a.measure.now) a.view (g.met.M.Measure.below a.measure.now) (g.met.M.Measure.inner a.measure.now) (g.met.S.NodeStore.lawful a.store.now) in
+    let fair = fair-scene g.met.M.Distance.Ranked.ordered t (m.dist a.self.now.measure.now) (m.bound a.self.now.measure.now) a.self.now.view (g.met.M.Measure.below a.self.now.measure.now) (g.met.M.Measure.inner a.self.now.measure.now) (g.met.S.NodeStore.lawful a.store.now) in
     let l = c.loop in
     record {
       waiting = subst (λ t. Waiting (sees t) l.items l.len) (sym l.invariant.0) l.invariant.2;
@@ -40,9 +40,9 @@ returns-in-None g c =
     let m = g.M.Measure in
     let store = g.S.NodeStore in
     let t = store.table a.store.now in
-    let sees : Table → Scene g.row.M-Distance.Denot = λ t. scene g.M.Distance.Ranked.precedes t (m.dist a.measure.now) (m.bound a.measure.now) a.view in
+    let sees : Table → Scene g.row.M-Distance.Denot = λ t. scene g.M.Distance.Ranked.precedes t (m.dist a.self.now.measure.now) (m.bound a.self.now.measure.now) a.self.now.view in
     let s = sees t in
-    let fair = fair-scene g.met.M.Distance.Ranked.ordered t (m.dist a.measure.now) (m.bound a.measure.now) a.view (g.met.M.Measure.below a.measure.now) (g.met.M.Measure.inner a.measure.now) (g.met.S.NodeStore.lawful a.store.now) in
+    let fair = fair-scene g.met.M.Distance.Ranked.ordered t (m.dist a.self.now.measure.now) (m.bound a.self.now.measure.now) a.self.now.view (g.met.M.Measure.below a.self.now.measure.now) (g.met.M.Measure.inner a.self.now.measure.now) (g.met.S.NodeStore.lawful a.store.now) in
     let l = c.loop in
     let told = subst (λ t. Next (sees t) (Before a.end) (left (sees t) (take l.len l.items)) c.next_label.new.items (store.metered l.store) (store.metered c.next_label.new.store) None) l.invariant.0 c.in-None.ensures.next in
     let e = stops-short s fair a.end a.k l.invariant.3 (omega arith) c.next_label.new.items (store.metered c.next_label.new.store) told in
@@ -54,9 +54,9 @@ loop-preserved g c =
     let m = g.M.Measure in
     let store = g.S.NodeStore in
     let t = store.table a.store.now in
-    let sees : Table → Scene g.row.M-Distance.Denot = λ t. scene g.M.Distance.Ranked.precedes t (m.dist a.measure.now) (m.bound a.measure.now) a.view in
+    let sees : Table → Scene g.row.M-Distance.Denot = λ t. scene g.M.Distance.Ranked.precedes t (m.dist a.self.now.measure.now) (m.bound a.self.now.measure.now) a.self.now.view in
     let s = sees t in
-    let fair = fair-scene g.met.M.Distance.Ranked.ordered t (m.dist a.measure.now) (m.bound a.measure.now) a.view (g.met.M.Measure.below a.measure.now) (g.met.M.Measure.inner a.measure.now) (g.met.S.NodeStore.lawful a.store.now) in
+    let fair = fair-scene g.met.M.Distance.Ranked.ordered t (m.dist a.self.now.measure.now) (m.bound a.self.now.measure.now) a.self.now.view (g.met.M.Measure.below a.self.now.measure.now) (g.met.M.Measure.inner a.self.now.measure.now) (g.met.S.NodeStore.lawful a.store.now) in
     let l = c.loop in
     let told = subst (λ t. Next (sees t) (Before a.end) (left (sees t) (take l.len l.items)) c.next_label.new.items (store.metered l.store) (store.metered c.next_label.new.store) (Some c.in-Some.label)) l.invariant.0 c.in-Some.ensures.next in
     let e = goes_on s fair a.end a.k l.invariant.3 (omega arith) c.next_label.new.items (store.metered c.next_label.new.store) c.in-Some.label told in
@@ -68,9 +68,9 @@ returns g c =
     let m = g.M.Measure in
     let store = g.S.NodeStore in
     let t = store.table a.store.now in
-    let sees : Table → Scene g.row.M-Distance.Denot = λ t. scene g.M.Distance.Ranked.precedes t (m.dist a.measure.now) (m.bound a.measure.now) a.view in
+    let sees : Table → Scene g.row.M-Distance.Denot = λ t. scene g.M.Distance.Ranked.precedes t (m.dist a.self.now.measure.now) (m.bound a.self.now.measure.now) a.self.now.view in
     let s = sees t in
-    let fair = fair-scene g.met.M.Distance.Ranked.ordered t (m.dist a.measure.now) (m.bound a.measure.now) a.view (g.met.M.Measure.below a.measure.now) (g.met.M.Measure.inner a.measure.now) (g.met.S.NodeStore.lawful a.store.now) in
+    let fair = fair-scene g.met.M.Distance.Ranked.ordered t (m.dist a.self.now.measure.now) (m.bound a.self.now.measure.now) a.self.now.view (g.met.M.Measure.below a.self.now.measure.now) (g.met.M.Measure.inner a.self.now.measure.now) (g.met.S.NodeStore.lawful a.store.now) in
     let l = c.loop in
     let full : l.counter ≡ a.k = omega arith in
     let e = stops-full s fair a.end a.k (subst (λ i. Checked s a.end a.k i (left s (take l.len l.items)) (store.metered a.store.now) (store.metered l.store)) full l.invariant.3) in

@@ -4,7 +4,7 @@ use Rattle.neighbours.specs.Items.{ahead}
 use Rattle.neighbours.specs.Scene.{scene, left, items_in}
 use Rattle.search.specs.Entering.{Entered}
 use Rattle.search.proofs.Steps.{Walked, fair-scene, taken, walked_none, walked-within, walked-room, walked-meter, walked_more, walked-shorter, walked-node, walked-label, walked-stops, walked-ends}
-use Rattle.search.proofs.walking.next_label.Goals as goal
+use Rattle.search.proofs.sight.Sight.next_label.Goals as goal
 
 pub loop-x-init : goal.loop-x-init
 loop-x-init g c = (refl, refl, walked_none _ c.args.limit c.args.items.now c.args.len _ c.requires.waiting)
@@ -15,8 +15,8 @@ returns-then-not-admits g c =
     let l = c.loop-x in
     let m = g.M.Measure in
     let store = g.S.NodeStore in
-    let s = scene g.M.Distance.Ranked.precedes (store.table a.store.now) (m.dist a.measure.now) (m.bound a.measure.now) a.view in
-    let fair = fair-scene g.met.M.Distance.Ranked.ordered (store.table a.store.now) (m.dist a.measure.now) (m.bound a.measure.now) a.view (g.met.M.Measure.below a.measure.now) (g.met.M.Measure.inner a.measure.now) (g.met.S.NodeStore.lawful a.store.now) in
+    let s = scene g.M.Distance.Ranked.precedes (store.table a.store.now) (m.dist a.self.now.measure.now) (m.bound a.self.now.measure.now) a.self.now.view in
+    let fair = fair-scene g.met.M.Distance.Ranked.ordered (store.table a.store.now) (m.dist a.self.now.measure.now) (m.bound a.self.now.measure.now) a.self.now.view (g.met.M.Measure.below a.self.now.measure.now) (g.met.M.Measure.inner a.self.now.measure.now) (g.met.S.NodeStore.lawful a.store.now) in
     let before = left s (take a.len a.items.now) in
     let t = taken s l.items c.pop.new.items l.waiting (c.in-Some.x, c.in-Some.rest) l.invariant.2.waits (omega arith) c.in-Some.ensures.told c.in-Some.ensures.queue.0 in
     record { table = l.invariant.0; frames = l.invariant.1; next = walked-stops s fair a.limit before l.invariant.2 t (sym c.admits.ensures ∙ c.if-not-admits.true) }
@@ -27,8 +27,8 @@ returns-in-OfLabel g c =
     let l = c.loop-x in
     let m = g.M.Measure in
     let store = g.S.NodeStore in
-    let s = scene g.M.Distance.Ranked.precedes (store.table a.store.now) (m.dist a.measure.now) (m.bound a.measure.now) a.view in
-    let fair = fair-scene g.met.M.Distance.Ranked.ordered (store.table a.store.now) (m.dist a.measure.now) (m.bound a.measure.now) a.view (g.met.M.Measure.below a.measure.now) (g.met.M.Measure.inner a.measure.now) (g.met.S.NodeStore.lawful a.store.now) in
+    let s = scene g.M.Distance.Ranked.precedes (store.table a.store.now) (m.dist a.self.now.measure.now) (m.bound a.self.now.measure.now) a.self.now.view in
+    let fair = fair-scene g.met.M.Distance.Ranked.ordered (store.table a.store.now) (m.dist a.self.now.measure.now) (m.bound a.self.now.measure.now) a.self.now.view (g.met.M.Measure.below a.self.now.measure.now) (g.met.M.Measure.inner a.self.now.measure.now) (g.met.S.NodeStore.lawful a.store.now) in
     let before = left s (take a.len a.items.now) in
     let t = taken s l.items c.pop.new.items l.waiting (c.in-Some.x, c.in-Some.rest) l.invariant.2.waits (omega arith) c.in-Some.ensures.told c.in-Some.ensures.queue.0 in
     record { table = l.invariant.0; frames = l.invariant.1; next = walked-label s fair a.limit before l.invariant.2 t c.in-OfLabel.label c.in-OfLabel.is (sym c.admits.ensures ∙ c.if-not-admits.false) }
@@ -39,8 +39,8 @@ open_node-waiting-requires g c =
     let l = c.loop-x in
     let m = g.M.Measure in
     let store = g.S.NodeStore in
-    let s = scene g.M.Distance.Ranked.precedes (store.table a.store.now) (m.dist a.measure.now) (m.bound a.measure.now) a.view in
-    let fair = fair-scene g.met.M.Distance.Ranked.ordered (store.table a.store.now) (m.dist a.measure.now) (m.bound a.measure.now) a.view (g.met.M.Measure.below a.measure.now) (g.met.M.Measure.inner a.measure.now) (g.met.S.NodeStore.lawful a.store.now) in
+    let s = scene g.M.Distance.Ranked.precedes (store.table a.store.now) (m.dist a.self.now.measure.now) (m.bound a.self.now.measure.now) a.self.now.view in
+    let fair = fair-scene g.met.M.Distance.Ranked.ordered (store.table a.store.now) (m.dist a.self.now.measure.now) (m.bound a.self.now.measure.now) a.self.now.view (g.met.M.Measure.below a.self.now.measure.now) (g.met.M.Measure.inner a.self.now.measure.now) (g.met.S.NodeStore.lawful a.store.now) in
     let before = left s (take a.len a.items.now) in
     let t = taken s l.items c.pop.new.items l.waiting (c.in-Some.x, c.in-Some.rest) l.invariant.2.waits (omega arith) c.in-Some.ensures.told c.in-Some.ensures.queue.0 in
     let node = c.in-OfNode.node in
@@ -57,8 +57,8 @@ loop-x-smaller g c =
     let l = c.loop-x in
     let m = g.M.Measure in
     let store = g.S.NodeStore in
-    let s = scene g.M.Distance.Ranked.precedes (store.table a.store.now) (m.dist a.measure.now) (m.bound a.measure.now) a.view in
-    let fair = fair-scene g.met.M.Distance.Ranked.ordered (store.table a.store.now) (m.dist a.measure.now) (m.bound a.measure.now) a.view (g.met.M.Measure.below a.measure.now) (g.met.M.Measure.inner a.measure.now) (g.met.S.NodeStore.lawful a.store.now) in
+    let s = scene g.M.Distance.Ranked.precedes (store.table a.store.now) (m.dist a.self.now.measure.now) (m.bound a.self.now.measure.now) a.self.now.view in
+    let fair = fair-scene g.met.M.Distance.Ranked.ordered (store.table a.store.now) (m.dist a.self.now.measure.now) (m.bound a.self.now.measure.now) a.self.now.view (g.met.M.Measure.below a.self.now.measure.now) (g.met.M.Measure.inner a.self.now.measure.now) (g.met.S.NodeStore.lawful a.store.now) in
     let before = left s (take a.len a.items.now) in
     let t = taken s l.items c.pop.new.items l.waiting (c.in-Some.x, c.in-Some.rest) l.invariant.2.waits (omega arith) c.in-Some.ensures.told c.in-Some.ensures.queue.0 in
     let node = c.in-OfNode.node in
@@ -73,8 +73,8 @@ loop-x-preserved g c =
     let l = c.loop-x in
     let m = g.M.Measure in
     let store = g.S.NodeStore in
-    let s = scene g.M.Distance.Ranked.precedes (store.table a.store.now) (m.dist a.measure.now) (m.bound a.measure.now) a.view in
-    let fair = fair-scene g.met.M.Distance.Ranked.ordered (store.table a.store.now) (m.dist a.measure.now) (m.bound a.measure.now) a.view (g.met.M.Measure.below a.measure.now) (g.met.M.Measure.inner a.measure.now) (g.met.S.NodeStore.lawful a.store.now) in
+    let s = scene g.M.Distance.Ranked.precedes (store.table a.store.now) (m.dist a.self.now.measure.now) (m.bound a.self.now.measure.now) a.self.now.view in
+    let fair = fair-scene g.met.M.Distance.Ranked.ordered (store.table a.store.now) (m.dist a.self.now.measure.now) (m.bound a.self.now.measure.now) a.self.now.view (g.met.M.Measure.below a.self.now.measure.now) (g.met.M.Measure.inner a.self.now.measure.now) (g.met.S.NodeStore.lawful a.store.now) in
     let before = left s (take a.len a.items.now) in
     let t = taken s l.items c.pop.new.items l.waiting (c.in-Some.x, c.in-Some.rest) l.invariant.2.waits (omega arith) c.in-Some.ensures.told c.in-Some.ensures.queue.0 in
     let node = c.in-OfNode.node in
@@ -93,6 +93,6 @@ returns g c =
     let l = c.loop-x in
     let m = g.M.Measure in
     let store = g.S.NodeStore in
-    let s = scene g.M.Distance.Ranked.precedes (store.table a.store.now) (m.dist a.measure.now) (m.bound a.measure.now) a.view in
-    let fair = fair-scene g.met.M.Distance.Ranked.ordered (store.table a.store.now) (m.dist a.measure.now) (m.bound a.measure.now) a.view (g.met.M.Measure.below a.measure.now) (g.met.M.Measure.inner a.measure.now) (g.met.S.NodeStore.lawful a.store.now) in
+    let s = scene g.M.Distance.Ranked.precedes (store.table a.store.now) (m.dist a.self.now.measure.now) (m.bound a.self.now.measure.now) a.self.now.view in
+    let fair = fair-scene g.met.M.Distance.Ranked.ordered (store.table a.store.now) (m.dist a.self.now.measure.now) (m.bound a.self.now.measure.now) a.self.now.view (g.met.M.Measure.below a.self.now.measure.now) (g.met.M.Measure.inner a.self.now.measure.now) (g.met.S.NodeStore.lawful a.store.now) in
     record { table = l.invariant.0; frames = l.invariant.1; next = walked-ends s fair a.limit (left s (take a.len a.items.now)) l.items c.pop.new.items l.waiting _ _ l.invariant.2 c.in_default.ensures.told }

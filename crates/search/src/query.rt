@@ -1,0 +1,12 @@
+use geometry::Place;
+
+// A query as it was admitted: by which measure and from where, whose label is left out, how many may be nearer than an
+// answer, and how many in turn, where answers are confirmed.
+#[derive(Drop)]
+pub(crate) struct Query<'a, M> {
+    pub measure: &'a M,
+    pub from: Place,
+    pub own: Option<u32>,
+    pub k: u32,
+    pub confirming: Option<u32>,
+}
