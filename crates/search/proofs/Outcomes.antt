@@ -9,7 +9,7 @@ use Rattle.geometry.specs.Refusals.{refusal}
 use Rattle.geometry.specs.Plane.{in_range, place_at}
 use Rattle.listing.specs.Lists.{counted}
 use Rattle.neighbours.specs.Queries.{refused, outcome, filled}
-use Rattle.search.specs.Answers.{all_counted, checked, admitted, concluded, fitting}
+use Rattle.search.specs.Answers.{all_counted, admitted, concluded, fitting}
 
 some≢none : {X : Type 0} (x : X) → Some x ≡ None → ⊥
 some≢none x h = let z : ◌≡◌ {A = ℕ} 0 1 = cc in omega arith
@@ -25,15 +25,7 @@ admitted-told None x y p h = (refl, unok p (place_at x y) h)
     unok : (a b : Place) → ◌≡◌ {A = Result Place Refusal} (Ok a) (Ok b) → a ≡ b
     unok a b h = cc
 
--- what the check of the counts tells
-pub uncounted : (counts : Bool) (x y : ℤ) (needed shortest : ℕ) (e : Refusal) → Err e ≡ checked counts → refused counts x y needed shortest ≡ Some e
-uncounted true x y needed shortest e h = let z : ◌≡◌ {A = ℕ} 0 1 = cc in absurd (omega arith)
-uncounted false x y needed shortest e h = cc
-
-pub counts-fine : (counts : Bool) (u : Unit) → Ok u ≡ checked counts → counts ≡ true
-counts-fine true u h = refl
-counts-fine false u h = let z : ◌≡◌ {A = ℕ} 0 1 = cc in absurd (omega arith)
-
+-- the counts of the two queries
 pub one-count : (k : ℕ) → all_counted (k ∷ []) ≡ counted k
 one-count k = and-true (counted k)
 
@@ -59,19 +51,17 @@ pub refuses : (o : Option Refusal) (e : Refusal) (ns before : List ℕ) (opened 
 refuses o e ns before opened places h = (ap (λ r. outcome r ns opened places) (sym h), ap (λ r. filled r ns before) (sym h))
 
 -- a query that searched tells what the answers and the meter come to
-pub searches : (o : Option Refusal) (ns before after : List ℕ) (count : Option ℕ) (opened meter : ℕ) → o ≡ None → count ≡ fitting ns (length before)
-    → after ≡ take (length before) ns ++ drop (length ns) before → elim count as (λ _. Type 0) [ Some n ↦ meter ≡ opened | None ↦ Unit {0} ]
-    → (concluded count meter ≡ outcome o ns opened (length before)) × (after ≡ filled o ns before) × IfOk (concluded count meter) (λ t. meter ≡ opened)
-searches o ns before after count opened meter none fit list met = (
+pub searches : (ns before : List ℕ) (count : Option ℕ) (opened meter : ℕ) → count ≡ fitting ns (length before) → elim count as (λ _. Type 0) [ Some n ↦ meter ≡ opened | None ↦ Unit {0} ]
+    → (concluded count meter ≡ outcome None ns opened (length before)) × IfOk (concluded count meter) (λ t. meter ≡ opened)
+searches ns before count opened meter fit met = (
   ⊎_elim
       (λ (t : leb (length ns) (length before) ≡ true).
       let is = fit ∙ cond-true (leb (length ns) (length before)) (Some (length ns)) None t in
       let same : meter ≡ opened = subst (λ w. elim w as (λ _. Type 0) [ Some n ↦ meter ≡ opened | None ↦ Unit {0} ]) is met in
-      (λ i. concluded (is i) (same i)) ∙ sym (ap (λ r. outcome r ns opened (length before)) none ∙ cond-true (leb (length ns) (length before)) _ _ t))
+      (λ i. concluded (is i) (same i)) ∙ sym (cond-true (leb (length ns) (length before)) _ _ t))
       (λ (f : leb (length ns) (length before) ≡ false).
-      ap (λ w. concluded w meter) (fit ∙ cond-false (leb (length ns) (length before)) (Some (length ns)) None f) ∙ sym (ap (λ r. outcome r ns opened (length before)) none ∙ cond-false (leb (length ns) (length before)) _ _ f))
+      ap (λ w. concluded w meter) (fit ∙ cond-false (leb (length ns) (length before)) (Some (length ns)) None f) ∙ sym (cond-false (leb (length ns) (length before)) _ _ f))
       (cases_Bool (leb (length ns) (length before))),
-  list ∙ ap (λ r. filled r ns before) (sym none),
   by count met,
 )
   where

@@ -1,5 +1,5 @@
 // The two queries.
-ghost use Rattle.std.specs.Prelude.{◌≡◌, ◌≤◌, true, length, IfOk};
+ghost use Rattle.std.specs.Prelude.{◌≡◌, ◌≤◌, length, IfOk, None};
 ghost use Rattle.geometry.specs.Plane.{place_at};
 ghost use Rattle.index.specs.Laws.{Inside};
 ghost use Rattle.neighbours.specs.Ranking.{ranking};
@@ -8,7 +8,8 @@ ghost use Rattle.neighbours.specs.Reach.{nearest_openings, mutual_openings};
 ghost use Rattle.neighbours.specs.Links.{Links};
 ghost use Rattle.neighbours.specs.Scene.{work_places, spare_item};
 ghost use Rattle.neighbours.specs.Queries.{refused, refused_nearest, refused_mutual, outcome, filled};
-ghost use Rattle.search.specs.Answers.{all_counted, checked, concluded, admitted};
+ghost use Rattle.search.specs.Answers.{Roomy, all_counted, checked, concluded, admitted};
+ghost use Rattle.search.specs.Asking.{ranks, answers_to, openings_for};
 
 use crate::query::Query;
 use geometry::{Place, Reason, Refusal};
@@ -47,10 +48,17 @@ fn check_counts(counts: &[u32]) -> Result<(), Refusal>
     })
 }
 
-// The place of a query whose counts are in range, or its refusal: of the place first, then of the shortest work list.
-fn admit<S: NodeStore>(store: &S, x: i32, y: i32, shortest: usize) -> Result<Place, Refusal>
-    ensures { result ≡ admitted (refused true x y (work_places (S.table store.now)) shortest) x y }
+// The place of a query, or its refusal: of the counts first, then of the place, then of the shortest work list.
+fn admit<S: NodeStore>(
+    store: &S,
+    counts: &[u32],
+    x: i32,
+    y: i32,
+    shortest: usize,
+) -> Result<Place, Refusal>
+    ensures { result ≡ admitted (refused (all_counted counts.now) x y (work_places (S.table store.now)) shortest) x y }
 {
+    check_counts(counts)?;
     let from = Place::new(x, y)?;
     let needed = work_places(store);
     if shortest < needed {
@@ -76,6 +84,30 @@ fn conclude<S: NodeStore>(store: &S, count: Option<usize>) -> Result<Told, Refus
     })
 }
 
+impl<'a, M: Measure> Query<'a, M> {
+    // Answers the query: sets the meter to 0, puts the answers into the list, and tells their count and the openings.
+    fn answer<S: NodeStore>(
+        &self,
+        store: &mut S,
+        work: &mut [Item<M::Distance>],
+        second: &mut [Item<M::Distance>],
+        answers: &mut [u32],
+    ) -> Result<Told, Refusal>
+        requires count { 1 ≤ self.now.k }
+        requires room { work_places (S.table store.old) ≤ length work.old }
+        requires second { Roomy (S.table store.old) self.now.confirming (length second.old) }
+        ensures told { let near = ranks M.Distance.Ranked.precedes M.dist M.bound self.now in result ≡ outcome None (answers_to near (S.table store.old) self.now) (openings_for near (S.table store.old) self.now) (length answers.old) }
+        ensures answers { answers.new ≡ filled None (answers_to (ranks M.Distance.Ranked.precedes M.dist M.bound self.now) (S.table store.old) self.now) answers.old }
+        ensures metered { IfOk result (λ t. S.metered store.new ≡ openings_for (ranks M.Distance.Ranked.precedes M.dist M.bound self.now) (S.table store.old) self.now) }
+        ensures table { S.table store.new ≡ S.table store.old }
+        ensures frames { S.frames store.new ≡ S.frames store.old }
+    {
+        store.zero();
+        let count = self.gather(store, work, second, answers);
+        conclude(store, count)
+    }
+}
+
 // The labels near to a place: those than which fewer than `k` are nearer, by distance and then by number. The label of
 // the query's own number is left out.
 pub fn nearest<S: NodeStore, M: Measure>(
@@ -97,18 +129,15 @@ pub fn nearest<S: NodeStore, M: Measure>(
     ensures bounded { S.metered store.new ≤ 2000000 }
     ensures work { length work.new ≡ length work.old }
 {
-    check_counts(&[k])?;
     let query = Query {
         measure,
-        from: admit(store, x, y, work.len())?,
+        from: admit(store, &[k], x, y, work.len())?,
         own,
         k,
         confirming: None,
     };
-    store.zero();
     let mut none: [Item<M::Distance>; 0] = [];
-    let count = query.gather(store, work, &mut none, answers);
-    conclude(store, count)
+    query.answer(store, work, &mut none, answers)
 }
 
 // The labels near to a place to which the place is near in turn: of the candidates under `k1`, those p for which fewer
@@ -135,16 +164,13 @@ pub fn mutual<S: NodeStore, M: Measure>(
     ensures bounded { S.metered store.new ≤ 2000000 }
     ensures work { (length work.new ≡ length work.old) × (length second.new ≡ length second.old) }
 {
-    check_counts(&[k1, k2])?;
     let shortest = work.len().min(second.len());
     let query = Query {
         measure,
-        from: admit(store, x, y, shortest)?,
+        from: admit(store, &[k1, k2], x, y, shortest)?,
         own,
         k: k1,
         confirming: Some(k2),
     };
-    store.zero();
-    let count = query.gather(store, work, second, answers);
-    conclude(store, count)
+    query.answer(store, work, second, answers)
 }

@@ -1,4 +1,4 @@
-use Rattle.std.proofs.Common.{◌≡◌, ◌≤◌, leb, ◌++◌, length, take, drop, IfOk, Some, true, ◌&&◌, min, Ok, Err, sym, refl, ap, ◌∙◌, subst, arith, w32, SFits}
+use Rattle.std.proofs.Common.{◌≡◌, ◌≤◌, leb, ◌&&◌, List, [], ◌∷◌, length, min, IfOk, None, Ok, Err, sym, refl, ap, ◌∙◌, subst, arith, w32, SFits}
 use Rattle.std.proofs.lemmas.Result.{err_from_is_err_and}
 use Rattle.std.proofs.lemmas.Int.{to_z-of_z}
 use Rattle.std.proofs.lemmas.Bool.{and_parts, leb-true}
@@ -8,55 +8,28 @@ use Rattle.neighbours.specs.Ranking.{ranking}
 use Rattle.neighbours.specs.Neighbours.{mutual_answers}
 use Rattle.neighbours.specs.Reach.{mutual_openings}
 use Rattle.neighbours.specs.Scene.{work_places}
+use Rattle.neighbours.specs.Queries.{refused, refused_mutual, outcome, filled}
 use Rattle.neighbours.proofs.Linking.{links}
 use Rattle.neighbours.proofs.Reaching.{ranks, ranks-never}
-use Rattle.neighbours.specs.Queries.{refused, refused_mutual}
-use Rattle.search.specs.Answers.{checked, admitted, answers_of, openings_of, fitting}
-use Rattle.search.proofs.Outcomes.{uncounted, counts-fine, two-counts, refused-told, admitted-told, not-refused, refuses, searches, settled}
+use Rattle.search.specs.Answers.{all_counted, admitted}
+use Rattle.search.proofs.Outcomes.{two-counts, refused-told, admitted-told, not-refused, refuses}
 use Rattle.search.proofs.queries.mutual.Goals as goal
-
-pub returns-in_err-check_counts : goal.returns-in_err-check_counts
-returns-in_err-check_counts g c =
-    let a = c.args in
-    let m = g.M.Measure in
-    let store = g.S.NodeStore in
-    let t = store.table a.store.now in
-    let near = ranking g.M.Distance.Ranked.precedes (m.dist a.measure.now) (m.bound a.measure.now) in
-    let q = place_at a.x a.y in
-    let e = c.in_err-check_counts.field-0.0 in
-    let p = err_from_is_err_and c.from_residual.result c.from_residual.ensures.1 in
-    let is : c.from_residual.result ≡ Err e = p.1 ∙ ap (λ r. Err r) p.2 in
-    let shortest = min (length a.work.now) (length a.second.now) in
-    let why : refused_mutual t a.x a.y a.k1 a.k2 (length a.work.now) (length a.second.now) ≡ Some e = uncounted (counted a.k1 && counted a.k2) a.x a.y (work_places t) shortest e (c.in_err-check_counts.ensures ∙ ap checked (two-counts a.k1 a.k2)) in
-    let r = refuses (refused_mutual t a.x a.y a.k1 a.k2 (length a.work.now) (length a.second.now)) e (mutual_answers near t q a.own a.k1 a.k2) a.answers.now (mutual_openings near t q a.own a.k1 a.k2) (length a.answers.now) why in
-    record {
-      told = is ∙ r.0;
-      answers = r.1;
-      metered = rw is tt;
-      links = links near t (λ p. ranks-never (ranks g.met.M.Distance.Ranked.ordered (m.dist a.measure.now) (m.bound a.measure.now) p)) (g.met.S.NodeStore.lawful a.store.now).apart;
-      table = refl;
-      frames = refl;
-      opened = g.met.S.NodeStore.within a.store.now;
-      bounded = g.met.S.NodeStore.bounded a.store.now;
-      work = (refl, refl);
-    }
 
 pub returns-in_err-admit : goal.returns-in_err-admit
 returns-in_err-admit g c =
     let a = c.args in
     let m = g.M.Measure in
-    let store = g.S.NodeStore in
-    let t = store.table a.store.now in
+    let t = g.S.NodeStore.table a.store.now in
     let near = ranking g.M.Distance.Ranked.precedes (m.dist a.measure.now) (m.bound a.measure.now) in
     let q = place_at a.x a.y in
-    let counts : (counted a.k1 && counted a.k2) ≡ true = sym (two-counts a.k1 a.k2) ∙ counts-fine _ _ c.in_ok-check_counts.ensures in
     let fx : SFits w32 a.x = c.ranges.x in
     let fy : SFits w32 a.y = c.ranges.y in
+    let places = c.min-shortest.result in
     let e = c.in_err-admit.field-0.0 in
-    let p = err_from_is_err_and c.from_residual-in_err-admit.result c.from_residual-in_err-admit.ensures.1 in
-    let is : c.from_residual-in_err-admit.result ≡ Err e = p.1 ∙ ap (λ r. Err r) p.2 in
-    let told : Err e ≡ admitted (refused true a.x a.y (work_places t) c.min-shortest.result) a.x a.y = simp to_z-of_z at c.in_err-admit.ensures in
-    let why = (λ i. refused (counts i) a.x a.y (work_places t) (sym c.min-shortest.ensures i)) ∙ refused-told _ a.x a.y e told in
+    let p = err_from_is_err_and c.from_residual.result c.from_residual.ensures.1 in
+    let is : c.from_residual.result ≡ Err e = p.1 ∙ ap (λ r. Err r) p.2 in
+    let told : Err e ≡ admitted (refused (all_counted (a.k1 ∷ (a.k2 ∷ []))) a.x a.y (work_places t) places) a.x a.y = simp to_z-of_z at c.in_err-admit.ensures in
+    let why = (λ i. refused (sym (two-counts a.k1 a.k2) i) a.x a.y (work_places t) (sym c.min-shortest.ensures i)) ∙ refused-told _ a.x a.y e told in
     let r = refuses (refused_mutual t a.x a.y a.k1 a.k2 (length a.work.now) (length a.second.now)) e (mutual_answers near t q a.own a.k1 a.k2) a.answers.now (mutual_openings near t q a.own a.k1 a.k2) (length a.answers.now) why in
     record {
       told = is ∙ r.0;
@@ -70,26 +43,21 @@ returns-in_err-admit g c =
       work = (refl, refl);
     }
 
-pub gather-count-requires : goal.gather-count-requires
-gather-count-requires g c =
+pub answer-requires : goal.answer-requires
+answer-requires g c =
     let a = c.args in
-    let m = g.M.Measure in
-    let store = g.S.NodeStore in
-    let t = store.table a.store.now in
-    let near = ranking g.M.Distance.Ranked.precedes (m.dist a.measure.now) (m.bound a.measure.now) in
-    let q = place_at a.x a.y in
-    let counts : (counted a.k1 && counted a.k2) ≡ true = sym (two-counts a.k1 a.k2) ∙ counts-fine _ _ c.in_ok-check_counts.ensures in
+    let t = g.S.NodeStore.table a.store.now in
     let fx : SFits w32 a.x = c.ranges.x in
     let fy : SFits w32 a.y = c.ranges.y in
+    let places = c.min-shortest.result in
     let from = c.in_ok-admit.field-0 in
-    let told : Ok from ≡ admitted (refused true a.x a.y (work_places t) c.min-shortest.result) a.x a.y = simp to_z-of_z at c.in_ok-admit.ensures in
-    let ok = admitted-told _ a.x a.y from told in
-    let fine = not-refused true a.x a.y (work_places t) c.min-shortest.result ok.0 in
+    let told : Ok from ≡ admitted (refused (all_counted (a.k1 ∷ (a.k2 ∷ []))) a.x a.y (work_places t) places) a.x a.y = simp to_z-of_z at c.in_ok-admit.ensures in
+    let fine = not-refused (all_counted (a.k1 ∷ (a.k2 ∷ []))) a.x a.y (work_places t) places (admitted-told _ a.x a.y from told).0 in
+    let counts = and_parts (counted a.k1) (counted a.k2) (sym (two-counts a.k1 a.k2) ∙ fine.0) in
     record {
-      count = leb-true 1 a.k1 (and_parts (leb 1 a.k1) (leb a.k1 64) (and_parts (counted a.k1) (counted a.k2) counts).0).0;
-      room = subst (λ t. work_places t ≤ length a.work.now) (sym c.zero.ensures.table) (omega (arith, fine.1, c.min-shortest.ensures));
-      second = (subst (λ t. work_places t ≤ length a.second.now) (sym c.zero.ensures.table) (omega (arith, fine.1, c.min-shortest.ensures)), leb-true 1 a.k2 (and_parts (leb 1 a.k2) (leb a.k2 64) (and_parts (counted a.k1) (counted a.k2) counts).1).0);
-      meter = omega (arith, c.zero.ensures.metered);
+      count = leb-true 1 a.k1 (and_parts (leb 1 a.k1) (leb a.k1 64) counts.0).0;
+      room = omega (arith, fine.1, c.min-shortest.ensures);
+      second = (omega (arith, fine.1, c.min-shortest.ensures), leb-true 1 a.k2 (and_parts (leb 1 a.k2) (leb a.k2 64) counts.1).0);
     }
 
 pub returns : goal.returns
@@ -99,32 +67,23 @@ returns g c =
     let store = g.S.NodeStore in
     let t = store.table a.store.now in
     let near = ranking g.M.Distance.Ranked.precedes (m.dist a.measure.now) (m.bound a.measure.now) in
-    let q = place_at a.x a.y in
-    let counts : (counted a.k1 && counted a.k2) ≡ true = sym (two-counts a.k1 a.k2) ∙ counts-fine _ _ c.in_ok-check_counts.ensures in
     let fx : SFits w32 a.x = c.ranges.x in
     let fy : SFits w32 a.y = c.ranges.y in
+    let places = c.min-shortest.result in
     let from = c.in_ok-admit.field-0 in
-    let told : Ok from ≡ admitted (refused true a.x a.y (work_places t) c.min-shortest.result) a.x a.y = simp to_z-of_z at c.in_ok-admit.ensures in
+    let told : Ok from ≡ admitted (refused (all_counted (a.k1 ∷ (a.k2 ∷ []))) a.x a.y (work_places t) places) a.x a.y = simp to_z-of_z at c.in_ok-admit.ensures in
     let ok = admitted-told _ a.x a.y from told in
-    let fine = not-refused true a.x a.y (work_places t) c.min-shortest.result ok.0 in
-    let n = store.metered c.gather-count.new.store in
-    let why = (λ i. refused (counts i) a.x a.y (work_places t) (sym c.min-shortest.ensures i)) ∙ ok.0 in
-    let before = a.answers.now in
-    let same = c.zero.ensures.table in
-    let e = c.gather-count.ensures in
-    let opened = mutual_openings near t q a.own a.k1 a.k2 in
-    let fit = e.told ∙ (λ i. fitting (answers_of near (same i) (ok.1 i) a.own a.k1 (Some a.k2)) (length before)) in
-    let list = e.answers ∙ (λ i. take (length before) (answers_of near (same i) (ok.1 i) a.own a.k1 (Some a.k2)) ++ drop (length (answers_of near (same i) (ok.1 i) a.own a.k1 (Some a.k2))) before) in
-    let meter = settled c.gather-count.result n _ _ opened c.zero.ensures.metered (λ i. openings_of near (same i) (ok.1 i) a.own a.k1 (Some a.k2)) e.metered in
-    let s = searches (refused_mutual t a.x a.y a.k1 a.k2 (length a.work.now) (length a.second.now)) (mutual_answers near t q a.own a.k1 a.k2) before c.gather-count.new.answers c.gather-count.result opened n why fit list meter in
+    let none = (λ i. refused (sym (two-counts a.k1 a.k2) i) a.x a.y (work_places t) (sym c.min-shortest.ensures i)) ∙ ok.0 in
+    let after = c.answer.new.store in
+    let e = c.answer.ensures in
     record {
-      told = c.conclude.ensures ∙ s.0;
-      answers = s.1;
-      metered = subst (λ r. IfOk r (λ t. n ≡ opened)) (sym c.conclude.ensures) s.2;
+      told = e.told ∙ (λ i. outcome (sym none i) (mutual_answers near t (ok.1 i) a.own a.k1 a.k2) (mutual_openings near t (ok.1 i) a.own a.k1 a.k2) (length a.answers.now));
+      answers = e.answers ∙ (λ i. filled (sym none i) (mutual_answers near t (ok.1 i) a.own a.k1 a.k2) a.answers.now);
+      metered = subst (λ q. IfOk c.answer.result (λ t'. store.metered after ≡ mutual_openings near t q a.own a.k1 a.k2)) ok.1 e.metered;
       links = links near t (λ p. ranks-never (ranks g.met.M.Distance.Ranked.ordered (m.dist a.measure.now) (m.bound a.measure.now) p)) (g.met.S.NodeStore.lawful a.store.now).apart;
-      table = e.table ∙ same;
-      frames = e.frames ∙ c.zero.ensures.frames;
-      opened = g.met.S.NodeStore.within c.gather-count.new.store;
-      bounded = g.met.S.NodeStore.bounded c.gather-count.new.store;
+      table = e.table;
+      frames = e.frames;
+      opened = g.met.S.NodeStore.within after;
+      bounded = g.met.S.NodeStore.bounded after;
       work = (omega arith, omega arith);
     }
