@@ -16,7 +16,7 @@ use measure::Measure;
 use neighbours::{Arrival, Item, Limit, View};
 use queue::Ranked;
 
-impl<'a, M: Measure> Sight<'a, M> {
+impl<M: Measure> Sight<'_, M> {
     // Whether fewer than `k` of the labels that the view shows are nearer than `end`. Goes from the nearest label on, as
     // long as they are nearer than `end` and fewer than `k` have come.
     fn few_nearer<S: NodeStore>(
@@ -44,7 +44,7 @@ impl<'a, M: Measure> Sight<'a, M> {
     }
 }
 
-impl<'a, M: Measure> Query<'a, M> {
+impl<M: Measure> Query<'_, M> {
     // Whether the query's place is near in turn to a candidate, under `k`: its own label and the candidate are left out.
     fn is_confirmed<S: NodeStore>(
         &self,

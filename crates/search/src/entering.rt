@@ -15,7 +15,7 @@ use queue::{Ranked, push};
 
 // Here and in what calls these, the first `len` of the lent `items` are the queue, a heap that is changed in place: that
 // the caller lends the memory is a rule of the project.
-impl<'a, M: Measure> Sight<'a, M> {
+impl<M: Measure> Sight<'_, M> {
     // The item of a slot, if it has one that the view shows.
     fn item_of(&self, slot: Slot) -> Option<Item<M::Distance>>
         ensures { result ≡ item_seen M.dist M.bound self.now slot }

@@ -35,7 +35,7 @@ fn put_answer(answers: &mut [u32], count: usize, number: u32) -> Option<usize>
     Some(count + 1)
 }
 
-impl<'a, M: Measure> Query<'a, M> {
+impl<M: Measure> Query<'_, M> {
     // Puts the answers into the list, in order, and gives their count; `None` where they do not fit.
     pub fn gather<S: NodeStore>(
         &self,

@@ -84,7 +84,7 @@ fn conclude<S: NodeStore>(store: &S, count: Option<usize>) -> Result<Told, Refus
     })
 }
 
-impl<'a, M: Measure> Query<'a, M> {
+impl<M: Measure> Query<'_, M> {
     // Answers the query: sets the meter to 0, puts the answers into the list, and tells their count and the openings.
     fn answer<S: NodeStore>(
         &self,

@@ -12,7 +12,7 @@ use measure::Measure;
 use neighbours::{Arrival, Item, Limit, Subject};
 use queue::{Ranked, pop, push};
 
-impl<'a, M: Measure> Sight<'a, M> {
+impl<M: Measure> Sight<'_, M> {
     // Begins a search: the root alone is in the queue. Gives the length of the queue then.
     pub fn start<S: NodeStore>(&self, store: &S, items: &mut [Item<M::Distance>]) -> usize
         requires { work_places (S.table store.now) ≤ length items.old }
