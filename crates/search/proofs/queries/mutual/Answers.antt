@@ -43,23 +43,6 @@ returns-in_err-admit g c =
       work = (refl, refl);
     }
 
-pub answer-requires : goal.answer-requires
-answer-requires g c =
-    let a = c.args in
-    let t = g.S.NodeStore.table a.store.now in
-    let fx : SFits w32 a.x = c.ranges.x in
-    let fy : SFits w32 a.y = c.ranges.y in
-    let places = c.min-shortest.result in
-    let from = c.in_ok-admit.field-0 in
-    let told : Ok from ≡ admitted (refused (all_counted (a.k1 ∷ (a.k2 ∷ []))) a.x a.y (work_places t) places) a.x a.y = simp to_z-of_z at c.in_ok-admit.ensures in
-    let fine = not-refused (all_counted (a.k1 ∷ (a.k2 ∷ []))) a.x a.y (work_places t) places (admitted-told _ a.x a.y from told).0 in
-    let counts = and_parts (counted a.k1) (counted a.k2) (sym (two-counts a.k1 a.k2) ∙ fine.0) in
-    record {
-      count = leb-true 1 a.k1 (and_parts (leb 1 a.k1) (leb a.k1 64) counts.0).0;
-      room = omega (arith, fine.1, c.min-shortest.ensures);
-      second = (omega (arith, fine.1, c.min-shortest.ensures), leb-true 1 a.k2 (and_parts (leb 1 a.k2) (leb a.k2 64) counts.1).0);
-    }
-
 pub returns : goal.returns
 returns g c =
     let a = c.args in

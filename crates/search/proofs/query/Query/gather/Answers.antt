@@ -123,40 +123,6 @@ returns-in_err-count g c =
       metered = rw c.from_residual.ensures tt;
     }
 
-pub loop-next-smaller-then-is_answer : goal.loop-next-smaller-then-is_answer
-loop-next-smaller-then-is_answer g c =
-    let a = c.args in
-    let at = (goal.at.loop-next-smaller-then-is_answer g c).Start in
-    let q = a.self.now in
-    let store = g.S.NodeStore in
-    let lt = g.M.Distance.Ranked.precedes in
-    let dist = g.M.Measure.dist q.measure.now in
-    let bound = g.M.Measure.bound q.measure.now in
-    let t = store.table a.store.now in
-    let l = c.loop-next in
-    let items = c.next_label.new.items in
-    let n = store.metered c.next_label.new.store in
-    let x = c.in-Some.next in
-    let told = came g (goal.at.loop-next-smaller-then-is_answer g c).In-Some in
-    next-shorter lt t dist bound q.from q.own q.k q.confirming (fair g at) c.requires.count l.invariant.collected items n x told
-
-pub loop-next-smaller : goal.loop-next-smaller
-loop-next-smaller g c =
-    let a = c.args in
-    let at = (goal.at.loop-next-smaller g c).Start in
-    let q = a.self.now in
-    let store = g.S.NodeStore in
-    let lt = g.M.Distance.Ranked.precedes in
-    let dist = g.M.Measure.dist q.measure.now in
-    let bound = g.M.Measure.bound q.measure.now in
-    let t = store.table a.store.now in
-    let l = c.loop-next in
-    let items = c.next_label.new.items in
-    let n = store.metered c.next_label.new.store in
-    let x = c.in-Some.next in
-    let told = came g (goal.at.loop-next-smaller g c).In-Some in
-    next-shorter lt t dist bound q.from q.own q.k q.confirming (fair g at) c.requires.count l.invariant.collected items n x told
-
 pub loop-next-preserved-then-is_answer : goal.loop-next-preserved-then-is_answer
 loop-next-preserved-then-is_answer g c =
     let a = c.args in

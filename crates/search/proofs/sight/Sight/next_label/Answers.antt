@@ -23,9 +23,6 @@ fair g c = fair-scene g.met.M.Distance.Ranked.ordered _ _ _ _ (g.met.M.Measure.b
 abbrev before : (g : Over) → Start g → List (Item g.row.M-Distance.Denot)
 before g c = left (here g c) (take c.args.len c.args.items.now)
 
-pub loop-x-init : goal.loop-x-init
-loop-x-init g c = record { table = refl; frames = refl; walked = walked_none _ c.args.limit c.args.items.now c.args.len _ c.requires.waiting }
-
 pub returns-then-not-admits : goal.returns-then-not-admits
 returns-then-not-admits g c =
     let at = (goal.at.returns-then-not-admits g c).Start in
