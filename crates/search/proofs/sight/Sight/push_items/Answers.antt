@@ -41,15 +41,3 @@ loop-j-preserved g c =
     subst (Entered lt a.items.now c.push_slot-count.new.items a.len c.push_slot-count.result) (sym more)
     (entered-more (item-order g.met.M.Distance.Ranked.ordered) a.items.now l.items c.push_slot-count.new.items a.len l.count c.push_slot-count.result (items_in to near a.self.now.view (take l.j slots)) (item_of to near a.self.now.view c.slot.result) l.invariant c.push_slot-count.ensures)
 
-pub returns : goal.returns
-returns g c =
-    let a = c.args in
-    let l = c.loop-j in
-    let m = g.M.Measure in
-    let t = g.S.NodeStore.table a.store.now in
-    let o = g.S.NodeStore.opened a.store.now in
-    let to = m.dist a.self.now.measure.now a.self.now.view.from in
-    let near = m.bound a.self.now.measure.now a.self.now.view.from in
-    let few = few-slots t o (g.met.S.NodeStore.lawful a.store.now) in
-    let all : take l.j (open_slots t o) ≡ open_slots t o = take_all l.j (open_slots t o) (omega arith) in
-    subst (λ s. Entered (ahead g.M.Distance.Ranked.precedes) a.items.now l.items a.len l.count (items_in to near a.self.now.view s)) all l.invariant
