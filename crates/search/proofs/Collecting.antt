@@ -1,12 +1,13 @@
 -- A query collects its answers candidate by candidate.
-use Rattle.std.proofs.Common.{◌≡◌, ℕ, ◌+◌, ◌*◌, ◌<◌, ◌≤◌, Bool, true, false, cond, not, eqb, ltb, leb, List, [], ◌∷◌, ◌++◌, map, length, get_or, take, drop, set, Some, None, sum_by, filter, Option, sym, refl, ap, ◌∙◌, subst, ⊎_elim, arith, length-append}
+use Rattle.std.proofs.Common.{◌≡◌, ℕ, ◌+◌, ◌*◌, ◌<◌, ◌≤◌, Bool, true, false, cond, not, eqb, leb, List, [], ◌∷◌, ◌++◌, map, length, get_or, take, drop, set, Some, None, sum_by, filter, Option, sym, refl, ap, ◌∙◌, subst, arith, length-append}
 use Rattle.std.specs.List.{AllByRecursion}
 use Rattle.std.proofs.lemmas.List.{append_assoc, append-nil, map-append, drop_more, drop_all, set_at, take_all, take_at}
 use Rattle.std.proofs.lemmas.List.Elements.{filter-append}
 use Rattle.std.proofs.ByRecursion.{All-append, sum_by_le}
 use Rattle.std.proofs.lemmas.List.Sums.{sum_by_push}
 use Rattle.std.proofs.lemmas.List.Filters.{length-filter_both}
-use Rattle.std.proofs.lemmas.Bool.{cond-true, cond-false, le-leb, lt-leb, lt-ltb, le-ltb, cases_lt}
+use Rattle.std.proofs.lemmas.Bool.Decides.{nat_tests}
+use Rattle.std.proofs.lemmas.Bool.{cond-true, cond-false, le-leb, lt-leb}
 use Rattle.geometry.specs.declared.place.Place.{Place}
 use Rattle.geometry.specs.declared.rect.Rect.{Rect}
 use Rattle.geometry.specs.declared.label.Label.{Label}
@@ -57,25 +58,10 @@ put-more before after count ns n p room =
 
 -- what putting an answer tells of the room
 pub put-room : (answers : List ℕ) (count n : ℕ) → put_at answers count ≡ Some n → (count < length answers) × (n ≡ count + 1)
-put-room answers count n e = ⊎_elim
-    (λ (h : count < length answers). (h, unsome n (count + 1) (sym e ∙ cond-true (ltb count (length answers)) (Some (count + 1)) None (lt-ltb count (length answers) h))))
-    (λ (h : length answers ≤ count). absurd (none-some n (sym (cond-false (ltb count (length answers)) (Some (count + 1)) None (le-ltb count (length answers) h)) ∙ e)))
-    (cases_lt count (length answers))
-  where
-    unsome : (a b : ℕ) → Some a ≡ Some b → a ≡ b
-    unsome a b h = cc
-
-    none-some : (a : ℕ) → None ≡ Some a → ⊥
-    none-some a h = let z : ◌≡◌ {A = ℕ} 0 1 = cc in omega arith
+put-room answers count n e = grind (arith, nat_tests)
 
 pub put_full : (answers : List ℕ) (count : ℕ) → put_at answers count ≡ None → length answers ≤ count
-put_full answers count e = ⊎_elim
-    (λ (h : count < length answers). absurd (some-none (count + 1) (sym (cond-true (ltb count (length answers)) (Some (count + 1)) None (lt-ltb count (length answers) h)) ∙ e)))
-    (λ (h : length answers ≤ count). h)
-    (cases_lt count (length answers))
-  where
-    some-none : (a : ℕ) → Some a ≡ None → ⊥
-    some-none a h = let z : ◌≡◌ {A = ℕ} 0 1 = cc in omega arith
+put_full answers count e = grind (arith, nat_tests)
 
 -- all answers were put: they fit
 pub put_all : (before after : List ℕ) (count : ℕ) (ns : List ℕ) → Put before after count ns → (Some count ≡ fitting ns (length before)) × (after ≡ take (length before) ns ++ drop (length ns) before)

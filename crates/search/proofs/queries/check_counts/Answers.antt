@@ -1,9 +1,8 @@
-use Rattle.std.proofs.Common.{◌≡◌, rules, tests, sym, ◌∙◌, Ok, Err, Bool, Result, ap}
-use Rattle.std.specs.List.{list_all}
+use Rattle.std.proofs.Common.{rules, tests, sym, ◌∙◌, ap}
 use Rattle.std.proofs.lemmas.Iterator.{YieldsList-from_slice}
 use Rattle.std.proofs.lemmas.Iterator.Search.{all_from_yields_List}
 use Rattle.listing.specs.Lists.{counted}
-use Rattle.search.specs.Answers.{all_counted, checked}
+use Rattle.search.specs.Answers.{checked}
 use Rattle.search.proofs.queries.check_counts.Goals as goal
 
 pub returns-then-all : goal.returns-then-all

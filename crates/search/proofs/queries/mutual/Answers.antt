@@ -1,9 +1,7 @@
-use Rattle.std.proofs.Common.{◌≡◌, ◌≤◌, leb, ◌&&◌, List, [], ◌∷◌, length, min, IfOk, None, Ok, Err, sym, refl, ap, ◌∙◌, subst, arith, w32, SFits}
+use Rattle.std.proofs.Common.{◌≡◌, [], ◌∷◌, length, IfOk, Ok, Err, sym, refl, ap, ◌∙◌, subst, arith, w32, SFits}
 use Rattle.std.proofs.lemmas.Result.{err_from_is_err_and}
 use Rattle.std.proofs.lemmas.Int.{to_z-of_z}
-use Rattle.std.proofs.lemmas.Bool.{and_parts, leb-true}
 use Rattle.geometry.specs.Plane.{place_at}
-use Rattle.listing.specs.Lists.{counted}
 use Rattle.neighbours.specs.Ranking.{ranking}
 use Rattle.neighbours.specs.Neighbours.{mutual_answers}
 use Rattle.neighbours.specs.Reach.{mutual_openings}
@@ -12,7 +10,7 @@ use Rattle.neighbours.specs.Queries.{refused, refused_mutual, outcome, filled}
 use Rattle.neighbours.proofs.Linking.{links}
 use Rattle.neighbours.proofs.Reaching.{ranks, ranks-never}
 use Rattle.search.specs.Answers.{all_counted, admitted}
-use Rattle.search.proofs.Outcomes.{two-counts, refused-told, admitted-told, not-refused, refuses}
+use Rattle.search.proofs.Outcomes.{two-counts, refused-told, admitted-told, refuses}
 use Rattle.search.proofs.queries.mutual.Goals as goal
 
 pub returns-in_err-admit : goal.returns-in_err-admit

@@ -1,15 +1,14 @@
-use Rattle.std.proofs.Common.{◌≡◌, ◌≤◌, leb, ◌&&◌, List, [], ◌∷◌, length, min, IfOk, None, Ok, Err, sym, refl, ap, ◌∙◌, subst, arith, w32, SFits}
+use Rattle.std.proofs.Common.{◌≡◌, [], ◌∷◌, length, Err, sym, refl, ap, ◌∙◌, w32, SFits}
 use Rattle.std.proofs.lemmas.Result.{err_from_is_err_and}
 use Rattle.std.proofs.lemmas.Int.{to_z-of_z}
-use Rattle.std.proofs.lemmas.Bool.{and_parts, leb-true}
 use Rattle.geometry.specs.Plane.{place_at}
 use Rattle.neighbours.specs.Ranking.{ranking}
 use Rattle.neighbours.specs.Neighbours.{nearest_answers}
 use Rattle.neighbours.specs.Reach.{nearest_openings}
 use Rattle.neighbours.specs.Scene.{work_places}
-use Rattle.neighbours.specs.Queries.{refused, refused_nearest, outcome, filled}
+use Rattle.neighbours.specs.Queries.{refused, refused_nearest}
 use Rattle.search.specs.Answers.{all_counted, admitted}
-use Rattle.search.proofs.Outcomes.{one-count, refused-told, admitted-told, not-refused, refuses}
+use Rattle.search.proofs.Outcomes.{one-count, refused-told, refuses}
 use Rattle.search.proofs.queries.nearest.Goals as goal
 
 pub returns-in_err-admit : goal.returns-in_err-admit

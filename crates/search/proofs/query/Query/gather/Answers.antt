@@ -9,7 +9,7 @@ use Rattle.neighbours.proofs.Scenes.{Fair}
 use Rattle.neighbours.proofs.Browsed.{asking}
 use Rattle.search.specs.Answers.{Roomy, accepts, costs}
 use Rattle.search.proofs.Steps.{fair-scene}
-use Rattle.search.proofs.Collecting.{Collected, collected-none, collected-few, collected-meter, next-stands, next-shorter, next-meter, takes, passes_over, overflows, concludes, put-room, put_full}
+use Rattle.search.proofs.Collecting.{Collected, collected-none, collected-few, collected-meter, next-stands, next-meter, takes, passes_over, overflows, concludes, put-room, put_full}
 use Rattle.search.proofs.query.Query.gather.Given.{Over}
 use Rattle.search.proofs.query.Query.gather.Goals.{Start, In-Some}
 use Rattle.search.proofs.query.Query.gather.Goals as goal

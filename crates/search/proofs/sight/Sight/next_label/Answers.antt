@@ -1,4 +1,4 @@
-use Rattle.std.proofs.Common.{◌+◌, ◌<◌, ◌≤◌, List, length, take, sym, refl, ◌∙◌, subst, arith}
+use Rattle.std.proofs.Common.{◌+◌, ◌<◌, ◌≤◌, List, length, take, sym, ◌∙◌, subst, arith}
 use Rattle.index.specs.Table.{Table, node_at, node_count}
 use Rattle.neighbours.specs.declared.item.Item.{Item}
 use Rattle.neighbours.specs.Items.{ahead}
@@ -6,7 +6,7 @@ use Rattle.neighbours.specs.Scene.{Scene, left}
 use Rattle.neighbours.proofs.Scenes.{Fair}
 use Rattle.search.specs.Entering.{Entered}
 use Rattle.search.specs.Sights.{seen, items_seen}
-use Rattle.search.proofs.Steps.{Walked, fair-scene, taken, walked_none, walked-within, walked-room, walked-meter, walked_more, walked-shorter, walked-node, walked-label, walked-stops, walked-ends}
+use Rattle.search.proofs.Steps.{Walked, fair-scene, taken, walked-within, walked-room, walked-meter, walked_more, walked-shorter, walked-node, walked-label, walked-stops, walked-ends}
 use Rattle.search.proofs.sight.Sight.next_label.Given.{Over}
 use Rattle.search.proofs.sight.Sight.next_label.Goals.{Start}
 use Rattle.search.proofs.sight.Sight.next_label.Goals as goal

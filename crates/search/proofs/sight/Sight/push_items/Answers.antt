@@ -1,10 +1,9 @@
-use Rattle.std.proofs.Common.{◌≡◌, ◌++◌, length, take, sym, ap, ◌∙◌, subst, arith}
-use Rattle.std.proofs.lemmas.List.{take_all}
+use Rattle.std.proofs.Common.{◌++◌, length, take, sym, ap, ◌∙◌, subst, arith}
 use Rattle.neighbours.specs.Items.{ahead}
 use Rattle.neighbours.specs.Scene.{item_of, items_in, listed}
 use Rattle.neighbours.specs.Ordering.{item-order}
 use Rattle.search.specs.Entering.{open_slots, Entered}
-use Rattle.search.proofs.Queueing.{entered-none, entered-more, items_more, items-room, slot-open, few-slots}
+use Rattle.search.proofs.Queueing.{entered-none, entered-more, items_more, items-room, slot-open}
 use Rattle.search.proofs.sight.Sight.push_items.Goals as goal
 
 pub loop-j-init : goal.loop-j-init
