@@ -13,8 +13,8 @@ use measure::Measure;
 use neighbours::{Item, Subject};
 use queue::{Ranked, push};
 
-// Here and in what calls these, the first `len` of the lent `items` are the queue, a heap that is changed in place: that
-// the caller lends the memory is a rule of the project.
+// Here and in what calls these, the queue is the first `len` of `items`, a heap that is changed in place: one list that the
+// caller lends for the whole query is a rule of the project.
 impl<M: Measure> Sight<'_, M> {
     // The item of a slot, if it has one that the view shows.
     fn item_of(&self, slot: Slot) -> Option<Item<M::Distance>>
@@ -50,7 +50,8 @@ impl<M: Measure> Sight<'_, M> {
         }
     }
 
-    // Pushes the items of the open node, and gives the length of the queue then.
+    // Pushes the items of the open node, and gives the length of the queue then. A store tells a node's slots by their
+    // places alone, so the loop goes over the places.
     fn push_items<S: NodeStore>(
         &self,
         store: &S,

@@ -13,7 +13,7 @@ ghost use Rattle.search.specs.Asking.{ranks, answers_to, openings_for};
 
 use crate::query::Query;
 use geometry::{Place, Reason, Refusal};
-use index::NodeStore;
+use index::{NodeStore, SLOTS};
 use measure::Measure;
 use neighbours::{Item, Subject, Told};
 use queue::Ranked;
@@ -22,7 +22,7 @@ use queue::Ranked;
 pub fn work_places<S: NodeStore>(store: &S) -> usize
     ensures { result ≡ work_places (S.table store.now) }
 {
-    1 + 12 * store.node_count()
+    1 + SLOTS * store.node_count()
 }
 
 // An item to fill a work list with.

@@ -9,4 +9,3 @@ pub returns-then-all : goal.returns-then-all
 returns-then-all c =
     let all = all_from_yields_List counted _ _ c.all.result c.all.ensures.ran (YieldsList-from_slice c.args.counts.now cc) (λ x b q k. search (rules, tests)) in
     ap checked (sym c.if-all.true ∙ all)
-

@@ -37,4 +37,3 @@ returns-in_err-admit g c =
       bounded = g.met.S.NodeStore.bounded a.store.now;
       work = refl;
     }
-

@@ -39,4 +39,3 @@ loop-j-preserved g c =
     let more = items_more to near a.self.now.view slots l.j ∙ ap (λ s. items_in to near a.self.now.view (take l.j slots) ++ listed (item_of to near a.self.now.view s)) (sym is) in
     subst (Entered lt a.items.now c.push_slot-count.new.items a.len c.push_slot-count.result) (sym more)
     (entered-more (item-order g.met.M.Distance.Ranked.ordered) a.items.now l.items c.push_slot-count.new.items a.len l.count c.push_slot-count.result (items_in to near a.self.now.view (take l.j slots)) (item_of to near a.self.now.view c.slot.result) l.invariant c.push_slot-count.ensures)
-
