@@ -228,9 +228,6 @@ module _ {D : Type 0} (lt : D → D → Bool) (t : Table) (dist : Place → Plac
         next-stands = all_there (λ x. Stands scene-of x.distance x.subject) (c.gone ++ next.0) (found d l) coming
             (subst (AllByRecursion (λ x. Stands scene-of x.distance x.subject)) (c.split ∙ ap (λ w. c.gone ++ w) next.1 ∙ sym (append_assoc c.gone next.0 (found d l ∷ coming))) (all-stand scene-of))
 
-        pub next-shorter : length coming < length rest
-        next-shorter = omega (arith, ap length next.1, length-append next.0 (found d l ∷ coming))
-
         pub next-meter : n' + work_places t ≤ m + 1100000
         next-meter = omega (arith, next.3, c.meter, nodes-are, few-parts scene-of fair walked coming walked-split, fair.lawful.few, costs-few (labels_of c.gone), few-gone)
 

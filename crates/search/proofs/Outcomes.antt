@@ -1,12 +1,11 @@
 -- What the refusals of a query come to.
-use Rattle.std.proofs.Common.{◌≡◌, ℕ, ◌≤◌, Bool, true, false, ◌&&◌, List, [], ◌∷◌, ℤ, Some, None, Ok, Err, Option, sym, refl, ap, arith}
+use Rattle.std.proofs.Common.{◌≡◌, ℕ, ◌&&◌, List, [], ◌∷◌, ℤ, Some, None, Ok, Err, Option, sym, refl, ap}
 use Rattle.std.proofs.Math.Bool.{and-true}
-use Rattle.std.proofs.lemmas.Bool.Decides.{nat_tests}
 use Rattle.geometry.specs.declared.place.Place.{Place}
 use Rattle.geometry.specs.declared.refusal.Refusal.{Refusal}
 use Rattle.geometry.specs.Plane.{place_at}
 use Rattle.listing.specs.Lists.{counted}
-use Rattle.neighbours.specs.Queries.{refused, outcome, filled}
+use Rattle.neighbours.specs.Queries.{outcome, filled}
 use Rattle.search.specs.Answers.{all_counted, admitted}
 
 pub refused-told : (o : Option Refusal) (x y : ℤ) (e : Refusal) → Err e ≡ admitted o x y → o ≡ Some e
@@ -23,11 +22,6 @@ one-count k = and-true (counted k)
 
 pub two-counts : (k1 k2 : ℕ) → all_counted (k1 ∷ (k2 ∷ [])) ≡ (counted k1 && counted k2)
 two-counts k1 k2 = ap (λ b. counted k1 && b) (and-true (counted k2))
-
--- a query that is not refused has its counts and its room
-pub not-refused : (counts : Bool) (x y : ℤ) (needed shortest : ℕ) → refused counts x y needed shortest ≡ None → (counts ≡ true) × (needed ≤ shortest)
-not-refused false x y needed shortest h = absurd (cc)
-not-refused true x y needed shortest h = grind (arith, nat_tests)
 
 -- a query that is refused before it searches tells so and leaves the list
 pub refuses : (o : Option Refusal) (e : Refusal) (ns before : List ℕ) (opened places : ℕ) → o ≡ Some e → (Err e ≡ outcome o ns opened places) × (before ≡ filled o ns before)

@@ -1,9 +1,7 @@
 -- The items of a node enter the queue one by one.
-use Rattle.std.proofs.Common.{◌≡◌, ℕ, zero, suc, ◌+◌, ◌<◌, ◌≤◌, Bool, List, [], ◌∷◌, ◌++◌, length, get_or, take, Some, None, Option, sym, refl, ap, ◌∙◌, ⊎_elim, add-one, arith, length-append}
+use Rattle.std.proofs.Common.{◌≡◌, ℕ, zero, suc, ◌+◌, ◌<◌, ◌≤◌, Bool, List, [], ◌∷◌, ◌++◌, length, get_or, take, Some, None, Option, sym, refl, ap, ◌∙◌, add-one, arith, length-append}
 use Rattle.std.specs.List.{flat_map}
-use Rattle.std.proofs.lemmas.List.{append_assoc, append-nil, get_or_past}
-use Rattle.std.proofs.ByRecursion.{All-get_or}
-use Rattle.std.proofs.lemmas.Bool.{cases_lt}
+use Rattle.std.proofs.lemmas.List.{append_assoc, append-nil}
 use Rattle.geometry.specs.declared.place.Place.{Place}
 use Rattle.geometry.specs.declared.rect.Rect.{Rect}
 use Rattle.queue.specs.Order.{Order, insert, sorted}
@@ -12,8 +10,7 @@ use Rattle.queue.specs.Calls.{Pushed}
 use Rattle.queue.proofs.Sorting.{sorted-push}
 use Rattle.index.specs.declared.slot.Slot.{Slot}
 use Rattle.index.specs.declared.slot.Slot.TheVariants.{Empty}
-use Rattle.index.specs.Table.{Table, node_count, slot_at}
-use Rattle.index.specs.Laws.{Lawful}
+use Rattle.index.specs.Table.{Table, slot_at}
 use Rattle.neighbours.specs.declared.item.Item.{Item}
 use Rattle.neighbours.specs.declared.view.View.{View}
 use Rattle.neighbours.specs.Scene.{item_of, items_in, listed}
@@ -68,10 +65,3 @@ pub slot-open : (t : Table) (o : Option ℕ) (j : ℕ) → slot_at t o j ≡ get
 slot-open t (Some n) j = refl
 slot-open t None zero = refl
 slot-open t None (suc j) = refl
-
-pub few-slots : (t : Table) (o : Option ℕ) → Lawful t → length (open_slots t o) ≤ 12
-few-slots t None w = omega arith
-few-slots t (Some n) w = ⊎_elim
-    (λ (h : n < node_count t). omega (arith, All-get_or (λ (slots : List Slot). length slots ≡ 12) t.nodes n [] h w.twelve))
-    (λ (h : node_count t ≤ n). omega (arith, ap length (get_or_past t.nodes n [] h)))
-    (cases_lt n (node_count t))

@@ -9,8 +9,8 @@ use Rattle.search.specs.declared.query.Query.{Query}
 use Rattle.search.specs.Answers.{answers_of, openings_of, accepts, costs}
 
 -- how a query ranks what it sees
-abbrev pub ranks : {D M : Type 0} → (D → D → Bool) → (M → Place → Place → D) → (M → Place → Rect → D) → Query M → Ranking
-ranks lt dist bound q = ranking lt (dist q.measure.now) (bound q.measure.now)
+abbrev pub ranking_of : {D M : Type 0} → (D → D → Bool) → (M → Place → Place → D) → (M → Place → Rect → D) → Query M → Ranking
+ranking_of lt dist bound q = ranking lt (dist q.measure.now) (bound q.measure.now)
 
 -- the answers of a query, and how many nodes it opens
 abbrev pub answers_to : Ranking → Table → {M : Type 0} → Query M → List ℕ

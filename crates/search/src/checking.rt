@@ -7,7 +7,7 @@ ghost use Rattle.neighbours.specs.Scene.{work_places};
 ghost use Rattle.neighbours.specs.Walks.{nearer_in, nodes_before};
 ghost use Rattle.search.specs.Answers.{Roomy};
 ghost use Rattle.search.specs.Sights.{seen};
-ghost use Rattle.search.specs.Asking.{ranks, accepted, cost_of};
+ghost use Rattle.search.specs.Asking.{ranking_of, accepted, cost_of};
 
 use crate::query::Query;
 use crate::sight::Sight;
@@ -59,8 +59,8 @@ impl<M: Measure> Query<'_, M> {
         requires meter { S.metered store.old + work_places (S.table store.old) ≤ 2000000 }
         ensures table { S.table store.new ≡ S.table store.old }
         ensures frames { S.frames store.new ≡ S.frames store.old }
-        ensures value { result ≡ confirmed (ranks M.Distance.Ranked.precedes M.dist M.bound self.now) self.now.from k (others self.now.own (plan (S.table store.old))) candidate.label }
-        ensures metered { S.metered store.new ≡ S.metered store.old + reach_of (ranks M.Distance.Ranked.precedes M.dist M.bound self.now) (S.table store.old) self.now.from k (others self.now.own (plan (S.table store.old))) candidate.label }
+        ensures value { result ≡ confirmed (ranking_of M.Distance.Ranked.precedes M.dist M.bound self.now) self.now.from k (others self.now.own (plan (S.table store.old))) candidate.label }
+        ensures metered { S.metered store.new ≡ S.metered store.old + reach_of (ranking_of M.Distance.Ranked.precedes M.dist M.bound self.now) (S.table store.old) self.now.from k (others self.now.own (plan (S.table store.old))) candidate.label }
     {
         let from_there = Sight {
             measure: self.measure,
@@ -86,8 +86,8 @@ impl<M: Measure> Query<'_, M> {
         requires meter { S.metered store.old + work_places (S.table store.old) ≤ 2000000 }
         ensures table { S.table store.new ≡ S.table store.old }
         ensures frames { S.frames store.new ≡ S.frames store.old }
-        ensures value { result ≡ accepted (ranks M.Distance.Ranked.precedes M.dist M.bound self.now) (S.table store.old) self.now candidate.label }
-        ensures metered { S.metered store.new ≡ S.metered store.old + cost_of (ranks M.Distance.Ranked.precedes M.dist M.bound self.now) (S.table store.old) self.now candidate.label }
+        ensures value { result ≡ accepted (ranking_of M.Distance.Ranked.precedes M.dist M.bound self.now) (S.table store.old) self.now candidate.label }
+        ensures metered { S.metered store.new ≡ S.metered store.old + cost_of (ranking_of M.Distance.Ranked.precedes M.dist M.bound self.now) (S.table store.old) self.now candidate.label }
     {
         match self.confirming {
             Some(k) => self.is_confirmed(store, k, candidate, items),

@@ -3,7 +3,7 @@ ghost use Rattle.std.specs.Prelude.{◌≡◌, ◌+◌, ◌≤◌, true, ◌++�
 ghost use Rattle.neighbours.specs.declared.limit.Limit.TheVariants.{UpTo};
 ghost use Rattle.neighbours.specs.Scene.{work_places};
 ghost use Rattle.search.specs.Answers.{Roomy, put_at, fitting};
-ghost use Rattle.search.specs.Asking.{ranks, answers_to, openings_for};
+ghost use Rattle.search.specs.Asking.{ranking_of, answers_to, openings_for};
 
 use crate::query::Query;
 use crate::sight::Sight;
@@ -51,9 +51,9 @@ impl<M: Measure> Query<'_, M> {
         requires meter { S.metered store.old ≤ 900000 }
         ensures table { S.table store.new ≡ S.table store.old }
         ensures frames { S.frames store.new ≡ S.frames store.old }
-        ensures told { result ≡ fitting (answers_to (ranks M.Distance.Ranked.precedes M.dist M.bound self.now) (S.table store.old) self.now) (length answers.old) }
-        ensures answers { let ns = answers_to (ranks M.Distance.Ranked.precedes M.dist M.bound self.now) (S.table store.old) self.now in answers.new ≡ take (length answers.old) ns ++ drop (length ns) answers.old }
-        ensures metered { elim result [ Some n ↦ S.metered store.new ≡ S.metered store.old + openings_for (ranks M.Distance.Ranked.precedes M.dist M.bound self.now) (S.table store.old) self.now | None ↦ Unit {0} ] }
+        ensures told { result ≡ fitting (answers_to (ranking_of M.Distance.Ranked.precedes M.dist M.bound self.now) (S.table store.old) self.now) (length answers.old) }
+        ensures answers { let ns = answers_to (ranking_of M.Distance.Ranked.precedes M.dist M.bound self.now) (S.table store.old) self.now in answers.new ≡ take (length answers.old) ns ++ drop (length ns) answers.old }
+        ensures metered { elim result [ Some n ↦ S.metered store.new ≡ S.metered store.old + openings_for (ranking_of M.Distance.Ranked.precedes M.dist M.bound self.now) (S.table store.old) self.now | None ↦ Unit {0} ] }
     {
         let sight = Sight {
             measure: self.measure,

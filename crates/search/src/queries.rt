@@ -9,7 +9,7 @@ ghost use Rattle.neighbours.specs.Links.{Links};
 ghost use Rattle.neighbours.specs.Scene.{work_places, spare_item};
 ghost use Rattle.neighbours.specs.Queries.{refused, refused_nearest, refused_mutual, outcome, filled};
 ghost use Rattle.search.specs.Answers.{Roomy, all_counted, checked, concluded, admitted};
-ghost use Rattle.search.specs.Asking.{ranks, answers_to, openings_for};
+ghost use Rattle.search.specs.Asking.{ranking_of, answers_to, openings_for};
 
 use crate::query::Query;
 use geometry::{Place, Reason, Refusal};
@@ -96,9 +96,9 @@ impl<M: Measure> Query<'_, M> {
         requires count { 1 ≤ self.now.k }
         requires room { work_places (S.table store.old) ≤ length work.old }
         requires second { Roomy (S.table store.old) self.now.confirming (length second.old) }
-        ensures told { let near = ranks M.Distance.Ranked.precedes M.dist M.bound self.now in result ≡ outcome None (answers_to near (S.table store.old) self.now) (openings_for near (S.table store.old) self.now) (length answers.old) }
-        ensures answers { answers.new ≡ filled None (answers_to (ranks M.Distance.Ranked.precedes M.dist M.bound self.now) (S.table store.old) self.now) answers.old }
-        ensures metered { IfOk result (λ t. S.metered store.new ≡ openings_for (ranks M.Distance.Ranked.precedes M.dist M.bound self.now) (S.table store.old) self.now) }
+        ensures told { let near = ranking_of M.Distance.Ranked.precedes M.dist M.bound self.now in result ≡ outcome None (answers_to near (S.table store.old) self.now) (openings_for near (S.table store.old) self.now) (length answers.old) }
+        ensures answers { answers.new ≡ filled None (answers_to (ranking_of M.Distance.Ranked.precedes M.dist M.bound self.now) (S.table store.old) self.now) answers.old }
+        ensures metered { IfOk result (λ t. S.metered store.new ≡ openings_for (ranking_of M.Distance.Ranked.precedes M.dist M.bound self.now) (S.table store.old) self.now) }
         ensures table { S.table store.new ≡ S.table store.old }
         ensures frames { S.frames store.new ≡ S.frames store.old }
     {
