@@ -9,7 +9,7 @@ use Rattle.geometry.specs.Refusals.{refusal}
 use Rattle.image.specs.Layout.{two, image_length, image_of}
 use Rattle.image.specs.Nodes.{start, leader_below}
 use Rattle.image.specs.Checks.{first_bad, unless, at_first, sizes_fine, node_fine, first_of, checks, verdict}
-use Rattle.image.specs.Results.{as_result, Sized, Led, in_size, header_verdict, entry_checks}
+use Rattle.image.specs.Results.{as_result, Sized, Led, in_size, header_verdict, node_checks}
 use Rattle.image.proofs.Written.{nodes-is, entries-is}
 
 -- a check that passes leaves the verdict to those after it
@@ -87,18 +87,20 @@ module _ (bs : List ℕ) (room : ℕ) where
       let d = image_of bs in
       some_first
       (unless (leb 4 (length bs)) (refusal BadLength (length bs)) ∷ unless (sizes_fine d) (refusal BadSize 0) ∷ unless (eqb (length bs) (image_length d.nodes d.entries)) (refusal BadLength (length bs)) ∷ [])
-      (at_first (first_bad (node_fine d) d.nodes) (λ _. BadSize) ∷ unless (eqb (start d d.nodes) d.entries) (refusal BadSize d.nodes) ∷ entry_checks d d.nodes d.entries room)
+      (node_checks d d.nodes d.entries room)
       r h
 
-  pub verdict-rest : (n m : ℕ) → Sized bs n m → header_verdict bs ≡ None → verdict bs room ≡ first_of (at_first (first_bad (node_fine (image_of bs)) n) (λ _. BadSize) ∷ unless (eqb (start (image_of bs) n) m) (refusal BadSize n) ∷ entry_checks (image_of bs) n m room)
+  pub verdict-rest : (cs : List ℕ) (n m : ℕ) → cs ≡ bs → Sized cs n m → header_verdict bs ≡ None → verdict bs room ≡ first_of (node_checks (image_of cs) n m room)
   unfolding checks
-  verdict-rest n m s h =
+  verdict-rest cs n m same s h =
       let d = image_of bs in
+      let nodes : (image_of bs).nodes ≡ n = ap (λ l. (image_of l).nodes) (sym same) ∙ sym s.nodes in
+      let entries : (image_of bs).entries ≡ m = ap (λ l. (image_of l).entries) (sym same) ∙ sym s.entries in
       none_first
       (unless (leb 4 (length bs)) (refusal BadLength (length bs)) ∷ unless (sizes_fine d) (refusal BadSize 0) ∷ unless (eqb (length bs) (image_length d.nodes d.entries)) (refusal BadLength (length bs)) ∷ [])
-      (at_first (first_bad (node_fine d) d.nodes) (λ _. BadSize) ∷ unless (eqb (start d d.nodes) d.entries) (refusal BadSize d.nodes) ∷ entry_checks d d.nodes d.entries room)
+      (node_checks d d.nodes d.entries room)
       h
-      ∙ (λ i. first_of (at_first (first_bad (node_fine d) (sym s.nodes i)) (λ _. BadSize) ∷ unless (eqb (start d (sym s.nodes i)) (sym s.entries i)) (refusal BadSize (sym s.nodes i)) ∷ entry_checks d (sym s.nodes i) (sym s.entries i) room))
+      ∙ (λ i. first_of (node_checks (image_of (sym same i)) (nodes i) (entries i) room))
 
 -- nothing leads to any node at the start
 pub led-none : (bs : List ℕ) → Led bs (replicate 128 0) 0

@@ -81,6 +81,13 @@ module _ (d : Image) where
       (λ (high : at ≤ e). within e high b ∙ sym (owner-is d d.nodes i e (omega arith) (omega arith) (omega (arith, start-more d i))))
       (cases_lt e at)
 
+  -- one more start
+  pub starts-more : (ss : List ℕ) (i first : ℕ) → i < length ss → first ≡ start d i → ((k : ℕ) → k < i → get_or ss k 0 ≡ start d k) → (k : ℕ) → k < i + 1 → get_or (set ss i first) k 0 ≡ start d k
+  starts-more ss i first l h old k b = ⊎_elim
+      (λ (e : k ≡ i). ap (λ j. get_or (set ss i first) j 0) e ∙ get_or-set_same ss i first 0 l ∙ h ∙ ap (start d) (sym e))
+      (λ (u : k ≡ i → ⊥). get_or-set_other ss i k first 0 u ∙ old k (omega (arith, u)))
+      (cases_eq k i)
+
   -- every node starts before the end
   pub start-within : (i n m : ℕ) → i < n → start d n ≡ m → start d i + d.count i ≤ m
   start-within i n m l h = omega (arith, start-more d i, start-rises d (suc i) n l)

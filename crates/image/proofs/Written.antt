@@ -28,9 +28,9 @@ module _ (bs : List ℕ) where
   unfolding image_of
   entries-is = refl
 
-  pub west-is : (n e : ℕ) → n ≡ (image_of bs).nodes → signed bs (box_start n e) ≡ (image_of bs).west e
+  pub west-is : (n e : ℕ) → n ≡ (image_of bs).nodes → signed bs (box_start n e + 0) ≡ (image_of bs).west e
   unfolding image_of
-  west-is n e h = ap (λ k. signed bs (box_start k e)) h
+  west-is n e h = ap (signed bs) (let w : box_start n e + 0 ≡ box_start n e = omega arith in w) ∙ ap (λ k. signed bs (box_start k e)) h
 
   pub south-is : (n e : ℕ) → n ≡ (image_of bs).nodes → signed bs (box_start n e + 4) ≡ (image_of bs).south e
   unfolding image_of

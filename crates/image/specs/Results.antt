@@ -9,8 +9,8 @@ use Rattle.geometry.specs.declared.refusal.Reason.TheVariants.{BadLength, BadSiz
 use Rattle.geometry.specs.Refusals.{refusal}
 use Rattle.geometry.specs.Plane.{spanning}
 use Rattle.image.specs.Layout.{Image, image_length, image_of}
-use Rattle.image.specs.Nodes.{owner, is_leaf_entry, leader_below, label_numbers}
-use Rattle.image.specs.Checks.{first_bad, unless, at_first, sizes_fine, box_fine, target_fine, target_reason, led_to, inside_fine, smallest_repeated, first_of}
+use Rattle.image.specs.Nodes.{start, owner, is_leaf_entry, leader_below, label_numbers}
+use Rattle.image.specs.Checks.{first_bad, unless, at_first, sizes_fine, node_fine, box_fine, target_fine, target_reason, led_to, inside_fine, smallest_repeated, first_of}
 
 -- a refusal, or none, as a call tells it
 abbrev pub as_result : Option Refusal → Result (Unit {0}) Refusal
@@ -55,7 +55,7 @@ inside_of d b e = spanning (d.west b) (d.east b) (d.west e) (d.east e) && spanni
 abbrev pub in_size : ℕ → ℕ → Bool
 in_size n m = nat_le 1 n && nat_le n 128 && nat_le 1 m && nat_le m 1537
 
--- the checks of the header, of the tree, and of the entries, with N and M by themselves
+-- the checks of the header, of the tree, of the entries, and of the nodes and all after them, with N and M by themselves
 abbrev pub header_verdict : List ℕ → Option Refusal
 header_verdict bs = first_of (
     unless (nat_le 4 (length bs)) (refusal BadLength (length bs))
@@ -76,3 +76,9 @@ entry_checks d n m room =
     unless (nat_le (length (label_numbers d)) room) (refusal ShortWorkList (length (label_numbers d)))
     ∷ at_first (first_bad (box_fine d) m) (λ _. BadBox)
     ∷ tree_checks d n m
+
+abbrev pub node_checks : Image → ℕ → ℕ → ℕ → List (Option Refusal)
+node_checks d n m room =
+    at_first (first_bad (node_fine d) n) (λ _. BadSize)
+    ∷ unless (start d n == m) (refusal BadSize n)
+    ∷ entry_checks d n m room

@@ -18,8 +18,8 @@ empty_table = record { box = rect_at (pos 0) (pos 0) (pos 0) (pos 0); nodes = re
 -- the table, with no node open and the meter at 0
 pub record Fresh (t : Table) (s : ImageStore) : Type 0 where
   pub table : held_table s ≡ t
-  pub closed : s.opened ≡ None
-  pub meter : s.meter ≡ 0
+  pub closed : s.openings.node ≡ None
+  pub meter : s.openings.meter ≡ 0
 
 -- a table has exactly the entries of an image: the root box, and in each node its entries in order, and nothing else
 pub record HasEntries (d : Image) (t : Table) : Type 0 where

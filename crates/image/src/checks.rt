@@ -3,15 +3,11 @@ ghost use Rattle.std.specs.Prelude.{◌≡◌, ◌≤◌, length, Some, None, Ma
 ghost use Rattle.image.specs.Layout.{image_of};
 ghost use Rattle.image.specs.Nodes.{start, label_numbers};
 ghost use Rattle.image.specs.Checks.{first_of, verdict};
-ghost use Rattle.image.specs.Results.{as_result, Sized, Owned, in_size, header_verdict, tree_checks, entry_checks};
+ghost use Rattle.image.specs.Results.{as_result, in_size, header_verdict, tree_checks, entry_checks, node_checks};
 
-use crate::boxes::{check_boxes, check_inside};
-use crate::nodes::{check_nodes, check_sum, find_owners};
-use crate::numbers::{check_numbers, check_room};
-use crate::targets::{check_led, check_targets};
+use crate::nodes::{Entries, MOST_NODES};
+use crate::reading::Reader;
 use geometry::{Reason, Refusal};
-
-const MOST_NODES: usize = 128;
 
 const MOST_ENTRIES: usize = 1537;
 
@@ -22,8 +18,8 @@ fn is_in_size(n: usize, m: usize) -> bool
 }
 
 // How many nodes and entries there are, by the first four bytes; the others are as many as that asks for.
-pub(crate) fn read_sizes(bytes: &[u8]) -> Result<(usize, usize), Refusal>
-    ensures { MatchResult result (λ s. (header_verdict bytes.now ≡ None) × Sized bytes.now s.0 s.1) (λ e. header_verdict bytes.now ≡ Some e) }
+pub(crate) fn read_sizes(bytes: &[u8]) -> Result<Reader<'_>, Refusal>
+    ensures { MatchResult result (λ r. (header_verdict bytes.now ≡ None) × (r.bytes.now ≡ bytes.now)) (λ e. header_verdict bytes.now ≡ Some e) }
 {
     let [n1, n0, m1, m0, rest @ ..] = bytes else {
         return Err(Refusal {
@@ -31,62 +27,73 @@ pub(crate) fn read_sizes(bytes: &[u8]) -> Result<(usize, usize), Refusal>
             place: bytes.len(),
         });
     };
-    let n = *n1 as usize * 256 + *n0 as usize;
-    let m = *m1 as usize * 256 + *m0 as usize;
-    if !is_in_size(n, m) {
+    let nodes = *n1 as usize * 256 + *n0 as usize;
+    let entries = *m1 as usize * 256 + *m0 as usize;
+    if !is_in_size(nodes, entries) {
         return Err(Refusal {
             reason: Reason::BadSize,
             place: 0,
         });
     }
-    if rest.len() != 2 * n + 20 * m {
+    if rest.len() != 2 * nodes + 20 * entries {
         return Err(Refusal {
             reason: Reason::BadLength,
             place: bytes.len(),
         });
     }
-    Ok((n, m))
+    Ok(Reader {
+        bytes,
+        nodes,
+        entries,
+    })
 }
 
-// The checks of what the entries lead to and hold.
-fn check_tree(
-    bytes: &[u8],
-    n: usize,
-    m: usize,
-    owners: &[usize],
-    numbers: &mut [u32],
-) -> Result<(), Refusal>
-    requires sized { Sized bytes.now n m }
-    requires owned { Owned bytes.now owners.now n m }
-    requires room { length (label_numbers (image_of bytes.now)) ≤ length numbers.old }
-    ensures { result ≡ as_result (first_of (tree_checks (image_of bytes.now) n m)) }
-{
-    let mut leaders = [0usize; MOST_NODES];
-    check_targets(bytes, n, m, owners, &mut leaders)?;
-    check_led(bytes, n, m, &leaders)?;
-    check_inside(bytes, n, m, owners, &leaders)?;
-    check_numbers(bytes, n, m, owners, numbers)
+impl Entries<'_> {
+    // The checks of what the entries lead to and hold.
+    fn check_tree(self, numbers: &mut [u32]) -> Result<(), Refusal>
+        requires { length (label_numbers (image_of self.reader.bytes.now)) ≤ length numbers.old }
+        ensures { result ≡ as_result (first_of (tree_checks (image_of self.entry.reader.bytes.now) self.entry.reader.nodes self.entry.reader.entries)) }
+    {
+        let mut leaders = [0usize; MOST_NODES];
+        self.check_targets(&mut leaders)?;
+        self.check_led(&leaders)?;
+        self.check_inside(&leaders)?;
+        self.check_numbers(numbers)
+    }
+
+    // The checks of the entries.
+    fn check(self, numbers: &mut [u32]) -> Result<(), Refusal>
+        ensures { result ≡ as_result (first_of (entry_checks (image_of self.entry.reader.bytes.now) self.entry.reader.nodes self.entry.reader.entries (length numbers.old))) }
+    {
+        self.check_room(numbers.len())?;
+        self.check_boxes()?;
+        self.check_tree(numbers)
+    }
 }
 
-// The checks of the entries.
-fn check_entries(bytes: &[u8], n: usize, m: usize, numbers: &mut [u32]) -> Result<(), Refusal>
-    requires sized { Sized bytes.now n m }
-    requires sum { start (image_of bytes.now) n ≡ m }
-    ensures { result ≡ as_result (first_of (entry_checks (image_of bytes.now) n m (length numbers.old))) }
-{
-    let mut owners = [0usize; MOST_ENTRIES];
-    find_owners(bytes, n, m, &mut owners);
-    check_room(bytes, n, m, &owners, numbers.len())?;
-    check_boxes(bytes, n, m, &owners)?;
-    check_tree(bytes, n, m, &owners, numbers)
+impl Reader<'_> {
+    // Finds the node of each entry, and checks the entries.
+    fn check_entries(self, numbers: &mut [u32]) -> Result<(), Refusal>
+        requires { start (image_of self.bytes.now) self.nodes ≡ self.entries }
+        ensures { result ≡ as_result (first_of (entry_checks (image_of self.entry.bytes.now) self.entry.nodes self.entry.entries (length numbers.old))) }
+    {
+        let mut owners = [0usize; MOST_ENTRIES];
+        self.find_owners(&mut owners).check(numbers)
+    }
+
+    // The checks of the nodes and the entries.
+    fn check(self, numbers: &mut [u32]) -> Result<(), Refusal>
+        ensures { result ≡ as_result (first_of (node_checks (image_of self.entry.bytes.now) self.entry.nodes self.entry.entries (length numbers.old))) }
+    {
+        self.check_nodes()?;
+        self.check_sum()?;
+        self.check_entries(numbers)
+    }
 }
 
 // Whether the bytes are a lawful image, or else why not. The list of numbers is for work.
 pub(crate) fn check(bytes: &[u8], numbers: &mut [u32]) -> Result<(), Refusal>
     ensures { result ≡ as_result (verdict bytes.now (length numbers.old)) }
 {
-    let (n, m) = read_sizes(bytes)?;
-    check_nodes(bytes, n, m)?;
-    check_sum(bytes, n, m)?;
-    check_entries(bytes, n, m, numbers)
+    read_sizes(bytes)?.check(numbers)
 }

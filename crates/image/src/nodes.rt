@@ -5,59 +5,20 @@ ghost use Rattle.geometry.specs.Refusals.{refusal};
 ghost use Rattle.image.specs.Layout.{image_of};
 ghost use Rattle.image.specs.Nodes.{start, is_leaf_entry};
 ghost use Rattle.image.specs.Checks.{first_bad, at_first, unless, node_fine};
-ghost use Rattle.image.specs.Results.{as_result, Sized, Owned};
+ghost use Rattle.image.specs.Results.{as_result, Owned};
 
-use crate::reading::{count_of, level_of};
+use crate::reading::Reader;
 use geometry::{Reason, Refusal};
 
-// Every node's level and count are in range.
-pub(crate) fn check_nodes(bytes: &[u8], n: usize, m: usize) -> Result<(), Refusal>
-    requires { Sized bytes.now n m }
-    ensures { result ≡ as_result (at_first (first_bad (node_fine (image_of bytes.now)) n) (λ _. BadSize)) }
-{
-    let [_, _, _, _, sizes @ ..] = bytes else {
-        return Ok(());
-    };
-    let mut left = sizes;
-    for i in 0..n {
-        let [level, count, rest @ ..] = left else {
-            return Ok(());
-        };
-        if *level > 7 || *count > 12 {
-            return Err(Refusal {
-                reason: Reason::BadSize,
-                place: i,
-            });
-        }
-        left = rest;
-    }
-    Ok(())
-}
+// An image has no more nodes.
+pub(crate) const MOST_NODES: usize = 128;
 
-// The entry in slot 0 of node `i`.
-pub(crate) fn start_of(bytes: &[u8], n: usize, m: usize, i: usize) -> usize
-    requires { (Sized bytes.now n m) × (i ≤ n) }
-    ensures { result ≡ start (image_of bytes.now) i }
-{
-    let mut first = 1;
-    for k in 0..i {
-        first += count_of(bytes, n, m, k) as usize;
-    }
-    first
-}
-
-// The counts come to the number of entries.
-pub(crate) fn check_sum(bytes: &[u8], n: usize, m: usize) -> Result<(), Refusal>
-    requires { Sized bytes.now n m }
-    ensures { result ≡ as_result (unless (start (image_of bytes.now) n == m) (refusal BadSize n)) }
-{
-    if start_of(bytes, n, m, n) != m {
-        return Err(Refusal {
-            reason: Reason::BadSize,
-            place: n,
-        });
-    }
-    Ok(())
+// An image, and the node of each of its entries.
+#[derive(Clone, Copy)]
+pub(crate) struct Entries<'a> {
+    pub(crate) reader: Reader<'a>,
+    pub(crate) owners: &'a [usize],
+    ghost owned: { Owned reader.bytes.now owners.now reader.nodes reader.entries },
 }
 
 // Writes `v` into each place from `from` up to `to`.
@@ -71,27 +32,93 @@ fn write_all(list: &mut [usize], from: usize, to: usize, v: usize)
     }
 }
 
-// Finds the node of each entry.
-pub(crate) fn find_owners(bytes: &[u8], n: usize, m: usize, owners: &mut [usize])
-    requires sized { Sized bytes.now n m }
-    requires sum { start (image_of bytes.now) n ≡ m }
-    requires room { m ≤ length owners.old }
-    ensures { Owned bytes.now owners.new n m }
-{
-    let mut at = 1;
-    for i in 0..n {
-        let end = at + count_of(bytes, n, m, i) as usize;
-        write_all(owners, at, end, i);
-        at = end;
+impl<'a> Reader<'a> {
+    // Every node's level and count are in range.
+    pub(crate) fn check_nodes(self) -> Result<(), Refusal>
+        ensures { result ≡ as_result (at_first (first_bad (node_fine (image_of self.entry.bytes.now)) self.entry.nodes) (λ _. BadSize)) }
+    {
+        let [_, _, _, _, sizes @ ..] = self.bytes else {
+            return Ok(());
+        };
+        let mut left = sizes;
+        for i in 0..self.nodes {
+            let [level, count, rest @ ..] = left else {
+                return Ok(());
+            };
+            if *level > 7 || *count > 12 {
+                return Err(Refusal {
+                    reason: Reason::BadSize,
+                    place: i,
+                });
+            }
+            left = rest;
+        }
+        Ok(())
+    }
+
+    // The entry in slot 0 of node `i`.
+    pub(crate) fn start(self, i: usize) -> usize
+        requires { i ≤ self.nodes }
+        ensures { result ≡ start (image_of self.entry.bytes.now) i }
+    {
+        let mut first = 1;
+        for k in 0..i {
+            first += self.count(k) as usize;
+        }
+        first
+    }
+
+    // The entry in slot 0 of each node.
+    pub(crate) fn starts(self) -> [usize; MOST_NODES]
+        ensures { (i : ℕ) → i < self.entry.nodes → slice_index result i ≡ start (image_of self.entry.bytes.now) i }
+    {
+        let mut starts = [0; MOST_NODES];
+        let mut first = 1;
+        for i in 0..self.nodes {
+            starts[i] = first;
+            first += self.count(i) as usize;
+        }
+        starts
+    }
+
+    // The counts come to the number of entries.
+    pub(crate) fn check_sum(self) -> Result<(), Refusal>
+        ensures { result ≡ as_result (unless (start (image_of self.entry.bytes.now) self.entry.nodes == self.entry.entries) (refusal BadSize self.entry.nodes)) }
+    {
+        if self.start(self.nodes) != self.entries {
+            return Err(Refusal {
+                reason: Reason::BadSize,
+                place: self.nodes,
+            });
+        }
+        Ok(())
+    }
+
+    // Finds the node of each entry.
+    pub(crate) fn find_owners(self, owners: &'a mut [usize]) -> Entries<'a>
+        requires sum { start (image_of self.bytes.now) self.nodes ≡ self.entries }
+        requires room { self.entries ≤ length owners.old }
+        ensures { result.reader ≡ self.entry }
+    {
+        let mut at = 1;
+        for i in 0..self.nodes {
+            let end = at + self.count(i) as usize;
+            write_all(owners, at, end, i);
+            at = end;
+        }
+        Entries {
+            reader: self,
+            owners,
+        }
     }
 }
 
-// Whether entry `e` is one of a leaf.
-pub(crate) fn is_leaf_entry(bytes: &[u8], n: usize, m: usize, owners: &[usize], e: usize) -> bool
-    requires sized { Sized bytes.now n m }
-    requires owned { Owned bytes.now owners.now n m }
-    requires within { e < m }
-    ensures { result ≡ is_leaf_entry (image_of bytes.now) e }
-{
-    e >= 1 && level_of(bytes, n, m, owners[e]) == 0
+impl Entries<'_> {
+    // Whether entry `e` is one of a leaf.
+    pub(crate) fn is_leaf_entry(self, e: usize) -> bool
+        requires { e < self.reader.entries }
+        ensures { result ≡ is_leaf_entry (image_of self.entry.reader.bytes.now) e }
+    {
+        e >= 1 && self.reader.level(self.owners[e]) == 0
+    }
 }

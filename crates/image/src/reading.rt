@@ -1,73 +1,99 @@
 // The numbers that an image writes, read where they stand.
-ghost use Rattle.std.specs.Prelude.{◌≡◌, ◌+◌, ◌*◌, ◌<◌, length};
-ghost use Rattle.image.specs.Layout.{four, signed, image_of};
+ghost use Rattle.std.specs.Prelude.{◌≡◌, ◌+◌, ◌*◌, ◌<◌, ◌≤◌, [], ◌∷◌, length, slice_index};
+ghost use Rattle.geometry.specs.Plane.{rect_from};
+ghost use Rattle.image.specs.Layout.{signed, box_start, image_of};
 ghost use Rattle.image.specs.Results.{Sized};
 
-// The number that the four bytes from `at` on write.
-fn four_at(bytes: &[u8], at: usize) -> u32
-    requires { at + 3 < length bytes.now }
-    ensures { result ≡ four bytes.now at }
-{
-    u32::from_be_bytes([bytes[at], bytes[at + 1], bytes[at + 2], bytes[at + 3]])
+use geometry::{Rect, Refusal};
+
+// The bytes of an image, which say how many nodes and entries there are and are as long as that asks for.
+#[derive(Clone, Copy)]
+pub(crate) struct Reader<'a> {
+    pub(crate) bytes: &'a [u8],
+    pub(crate) nodes: usize,
+    pub(crate) entries: usize,
+    ghost sized: { Sized bytes.now nodes entries },
 }
 
-// The same, as two's complement.
-fn signed_at(bytes: &[u8], at: usize) -> i32
-    requires { at + 3 < length bytes.now }
-    ensures { result ≡ signed bytes.now at }
-{
-    i32::from_be_bytes([bytes[at], bytes[at + 1], bytes[at + 2], bytes[at + 3]])
-}
+impl Reader<'_> {
+    // The four bytes from `at` on.
+    fn four_at(self, at: usize) -> [u8; 4]
+        requires { at + 3 < length self.bytes.now }
+        ensures { result ≡ slice_index self.entry.bytes.now at ∷ slice_index self.entry.bytes.now (at + 1) ∷ slice_index self.entry.bytes.now (at + 2) ∷ slice_index self.entry.bytes.now (at + 3) ∷ [] }
+    {
+        [
+            self.bytes[at],
+            self.bytes[at + 1],
+            self.bytes[at + 2],
+            self.bytes[at + 3],
+        ]
+    }
 
-// The level of node `i`.
-pub(crate) fn level_of(bytes: &[u8], n: usize, m: usize, i: usize) -> u8
-    requires { (Sized bytes.now n m) × (i < n) }
-    ensures { result ≡ (image_of bytes.now).level i }
-{
-    bytes[4 + 2 * i]
-}
+    // The level of node `i`.
+    pub(crate) fn level(self, i: usize) -> u8
+        requires { i < self.nodes }
+        ensures { result ≡ (image_of self.entry.bytes.now).level i }
+    {
+        self.bytes[4 + 2 * i]
+    }
 
-// How many entries node `i` has.
-pub(crate) fn count_of(bytes: &[u8], n: usize, m: usize, i: usize) -> u8
-    requires { (Sized bytes.now n m) × (i < n) }
-    ensures { result ≡ (image_of bytes.now).count i }
-{
-    bytes[5 + 2 * i]
-}
+    // How many entries node `i` has.
+    pub(crate) fn count(self, i: usize) -> u8
+        requires { i < self.nodes }
+        ensures { result ≡ (image_of self.entry.bytes.now).count i }
+    {
+        self.bytes[5 + 2 * i]
+    }
 
-// The sides of the box of entry `e`.
-pub(crate) fn west_of(bytes: &[u8], n: usize, m: usize, e: usize) -> i32
-    requires { (Sized bytes.now n m) × (e < m) }
-    ensures { result ≡ (image_of bytes.now).west e }
-{
-    signed_at(bytes, 4 + 2 * n + 16 * e)
-}
+    // The side of the box of entry `e` that stands so many bytes after its first.
+    fn side(self, e: usize, after: usize) -> i32
+        requires { (e < self.entries) × (after ≤ 12) }
+        ensures { result ≡ signed self.entry.bytes.now (box_start self.entry.nodes e + after) }
+    {
+        i32::from_be_bytes(self.four_at(4 + 2 * self.nodes + 16 * e + after))
+    }
 
-pub(crate) fn south_of(bytes: &[u8], n: usize, m: usize, e: usize) -> i32
-    requires { (Sized bytes.now n m) × (e < m) }
-    ensures { result ≡ (image_of bytes.now).south e }
-{
-    signed_at(bytes, 4 + 2 * n + 16 * e + 4)
-}
+    pub(crate) fn west(self, e: usize) -> i32
+        requires { e < self.entries }
+        ensures { result ≡ (image_of self.entry.bytes.now).west e }
+    {
+        self.side(e, 0)
+    }
 
-pub(crate) fn east_of(bytes: &[u8], n: usize, m: usize, e: usize) -> i32
-    requires { (Sized bytes.now n m) × (e < m) }
-    ensures { result ≡ (image_of bytes.now).east e }
-{
-    signed_at(bytes, 4 + 2 * n + 16 * e + 8)
-}
+    pub(crate) fn south(self, e: usize) -> i32
+        requires { e < self.entries }
+        ensures { result ≡ (image_of self.entry.bytes.now).south e }
+    {
+        self.side(e, 4)
+    }
 
-pub(crate) fn north_of(bytes: &[u8], n: usize, m: usize, e: usize) -> i32
-    requires { (Sized bytes.now n m) × (e < m) }
-    ensures { result ≡ (image_of bytes.now).north e }
-{
-    signed_at(bytes, 4 + 2 * n + 16 * e + 12)
-}
+    pub(crate) fn east(self, e: usize) -> i32
+        requires { e < self.entries }
+        ensures { result ≡ (image_of self.entry.bytes.now).east e }
+    {
+        self.side(e, 8)
+    }
 
-// What entry `e` leads to.
-pub(crate) fn target_of(bytes: &[u8], n: usize, m: usize, e: usize) -> u32
-    requires { (Sized bytes.now n m) × (e < m) }
-    ensures { result ≡ (image_of bytes.now).target e }
-{
-    four_at(bytes, 4 + 2 * n + 16 * m + 4 * e)
+    pub(crate) fn north(self, e: usize) -> i32
+        requires { e < self.entries }
+        ensures { result ≡ (image_of self.entry.bytes.now).north e }
+    {
+        self.side(e, 12)
+    }
+
+    // The box that entry `e` writes, if it is one.
+    pub(crate) fn rect(self, e: usize) -> Result<Rect, Refusal>
+        requires { e < self.entries }
+        ensures { result ≡ rect_from ((image_of self.entry.bytes.now).west e) ((image_of self.entry.bytes.now).south e) ((image_of self.entry.bytes.now).east e) ((image_of self.entry.bytes.now).north e) }
+    {
+        Rect::new(self.west(e), self.south(e), self.east(e), self.north(e))
+    }
+
+    // What entry `e` leads to.
+    pub(crate) fn target(self, e: usize) -> u32
+        requires { e < self.entries }
+        ensures { result ≡ (image_of self.entry.bytes.now).target e }
+    {
+        u32::from_be_bytes(self.four_at(4 + 2 * self.nodes + 16 * self.entries + 4 * e))
+    }
 }

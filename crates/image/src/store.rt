@@ -1,23 +1,26 @@
-ghost use Rattle.std.specs.Prelude.{◌≡◌, ◌≤◌, true, false, is_some, vec_capacity};
+ghost use Rattle.std.specs.Prelude.{◌≡◌, ℕ, ◌<◌, ◌≤◌, true, false, is_some, slice_index, vec_capacity};
 ghost use Rattle.image.specs.Layout.{image_of};
+ghost use Rattle.image.specs.Nodes.{start};
 ghost use Rattle.image.specs.Checks.{verdict};
-ghost use Rattle.image.specs.Opened.{opens_at};
+ghost use Rattle.image.specs.Opened.{has_open};
+
+use crate::nodes::MOST_NODES;
+use index::Openings;
 
 pub mod nodes;
 pub mod opening;
 
-// A store that holds an accepted image, and has memory for the longest one.
+// A store that holds an accepted image, the entry in slot 0 of each of its nodes, and memory for the longest image.
 #[derive(Drop)]
 pub struct ImageStore {
     bytes: Vec<u8>,
     nodes: usize,
     entries: usize,
-    opened: Option<usize>,
-    first: usize,
-    meter: u32,
+    starts: [usize; MOST_NODES],
+    openings: Openings,
     ghost roomy: { 31000 ≤ vec_capacity bytes },
     ghost fine: { is_some (verdict bytes.items 1537) ≡ false },
     ghost sized: { (nodes ≡ (image_of (bytes.items)).nodes) × (entries ≡ (image_of (bytes.items)).entries) },
-    ghost within: { opens_at (image_of bytes.items) opened first ≡ true },
-    ghost low: { meter ≤ 2000000 },
+    ghost placed: { (i : ℕ) → i < nodes → slice_index starts i ≡ start (image_of bytes.items) i },
+    ghost within: { has_open (image_of bytes.items) openings.node ≡ true },
 }

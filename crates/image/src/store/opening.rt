@@ -9,7 +9,10 @@ ghost use Rattle.image.specs.Store.{held_table, empty_table, Fresh, HasEntries};
 
 use super::ImageStore;
 use crate::checks::{check, read_sizes};
+use crate::nodes::MOST_NODES;
+use crate::reading::Reader;
 use geometry::Refusal;
+use index::Openings;
 use std::alloc::{AllocError, Global};
 
 // The longest image: 128 nodes and 1,537 entries.
@@ -41,9 +44,8 @@ impl ImageStore {
             bytes,
             nodes: 1,
             entries: 1,
-            opened: None,
-            first: 0,
-            meter: 0,
+            starts: [1; MOST_NODES],
+            openings: Openings::new(),
         })
     }
 
@@ -56,12 +58,25 @@ impl ImageStore {
         ensures lawful { is_ok result ≡ true → Lawful (held_table self.new) × HasEntries (image_of bytes.now) (held_table self.new) }
     {
         check(bytes, numbers)?;
-        let (nodes, entries) = read_sizes(bytes)?;
+        let reader = read_sizes(bytes)?;
         refill(&mut self.bytes, bytes);
-        self.nodes = nodes;
-        self.entries = entries;
-        self.opened = None;
-        self.meter = 0;
+        self.nodes = reader.nodes;
+        self.entries = reader.entries;
+        self.starts = reader.starts();
+        self.openings = Openings::new();
         Ok(())
+    }
+
+    // What reads the image that the store holds.
+    pub(crate) fn reader(&self) -> Reader<'_>
+        ensures bytes { result.bytes.now ≡ self.entry.now.bytes.items }
+        ensures nodes { result.nodes ≡ self.entry.now.nodes }
+        ensures entries { result.entries ≡ self.entry.now.entries }
+    {
+        Reader {
+            bytes: self.bytes.as_slice(),
+            nodes: self.nodes,
+            entries: self.entries,
+        }
     }
 }

@@ -9,15 +9,22 @@ returns-then-not-is_in_size c =
     let long : 4 ≤ length bs = search rules in
     header-sizes bs (two bs 0) (two bs 2) long refl refl (sym c.if-not-is_in_size.ensures)
 
-pub returns-then-rest-n : goal.returns-then-rest-n
-returns-then-rest-n c =
+pub returns-then-rest-nodes : goal.returns-then-rest-nodes
+returns-then-rest-nodes c =
     let bs = c.args.bytes.now in
     let long : 4 ≤ length bs = search rules in
-    header-long bs (two bs 0) (two bs 2) long refl refl (sym c.if-not-is_in_size.ensures) (λ e. c.if-rest-n.true (omega (arith, rest-length bs, e)))
+    header-long bs (two bs 0) (two bs 2) long refl refl (sym c.if-not-is_in_size.ensures) (λ e. c.if-rest-nodes.true (omega (arith, rest-length bs, e)))
 
 pub returns : goal.returns
 returns c =
     let bs = c.args.bytes.now in
     let long : 4 ≤ length bs = search rules in
-    let whole : length bs ≡ image_length (two bs 0) (two bs 2) = omega (arith, rest-length bs, c.if-rest-n.false) in
-    header-fine bs (two bs 0) (two bs 2) long refl refl (sym c.if-not-is_in_size.ensures) whole
+    let whole : length bs ≡ image_length (two bs 0) (two bs 2) = omega (arith, rest-length bs, c.if-rest-nodes.false) in
+    ((header-fine bs (two bs 0) (two bs 2) long refl refl (sym c.if-not-is_in_size.ensures) whole).0, refl)
+
+pub invariant_of-result : goal.invariant_of-result
+invariant_of-result c =
+    let bs = c.args.bytes.now in
+    let long : 4 ≤ length bs = search rules in
+    let whole : length bs ≡ image_length (two bs 0) (two bs 2) = omega (arith, rest-length bs, c.if-rest-nodes.false) in
+    record { sized = (header-fine bs (two bs 0) (two bs 2) long refl refl (sym c.if-not-is_in_size.ensures) whole).1 }

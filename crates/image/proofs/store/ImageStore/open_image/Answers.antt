@@ -3,8 +3,9 @@ use Rattle.std.proofs.lemmas.Result.{err_from_is_err_and}
 use Rattle.std.proofs.lemmas.Bool.{both_ways}
 use Rattle.index.specs.Laws.{Lawful}
 use Rattle.image.specs.Layout.{image_of}
-use Rattle.image.specs.Nodes.{table_of}
+use Rattle.image.specs.Nodes.{start, table_of}
 use Rattle.image.specs.Checks.{verdict}
+use Rattle.image.specs.Opened.{has_open}
 use Rattle.image.specs.Results.{as_result}
 use Rattle.image.specs.Store.{HasEntries}
 use Rattle.image.proofs.Chaining.{verdict-header}
@@ -39,14 +40,15 @@ invariant_of-self c =
     let bs = c.args.bytes.now in
     let room = length c.args.numbers.now in
     let none = ok-none (verdict bs room) (ap is_ok (sym c.in_ok-check.ensures)) in
-    let sizes = c.in_ok-nodes.ensures.1 in
+    let r = c.in_ok-reader.reader in
+    let read = c.in_ok-reader.ensures.1 ∙ sym c.refill.ensures.items in
     let same = sym c.refill.ensures.items in
     record {
       roomy = omega (arith, c.refill.ensures.room, c.args.self.now.roomy);
       fine = subst (λ l. is_some (verdict l 1537) ≡ false) same (ap is_some (accepted-roomy bs room none));
-      sized = (sizes.nodes ∙ ap (λ l. (image_of l).nodes) same, sizes.entries ∙ ap (λ l. (image_of l).entries) same);
-      within = refl;
-      low = omega arith;
+      sized = (r.sized.nodes ∙ ap (λ l. (image_of l).nodes) read, r.sized.entries ∙ ap (λ l. (image_of l).entries) read);
+      placed = λ i h. c.starts-self.ensures i h ∙ ap (λ l. start (image_of l) i) read;
+      within = ap (has_open (image_of c.refill.new.list.items)) c.new-self.ensures.node;
     }
 
 pub returns : goal.returns
@@ -57,7 +59,7 @@ returns c =
     let same = sym c.refill.ensures.items in
     record {
       told = c.in_ok-check.ensures;
-      accepted = λ _. record { table = ap (λ l. table_of (image_of l)) c.refill.ensures.items; closed = refl; meter = refl };
+      accepted = λ _. record { table = ap (λ l. table_of (image_of l)) c.refill.ensures.items; closed = c.new-self.ensures.node; meter = c.new-self.ensures.meter };
       refused = λ h. absurd (both_ways true h refl);
       exactly = λ fits. (λ _. accepted-obeys bs room none, λ _. refl);
       lawful = λ _. (
@@ -66,10 +68,10 @@ returns c =
       );
     }
 
-pub returns-in_err-nodes : goal.returns-in_err-nodes
-returns-in_err-nodes c =
+pub returns-in_err-reader : goal.returns-in_err-reader
+returns-in_err-reader c =
     let bs = c.args.bytes.now in
     let room = length c.args.numbers.now in
     let none = ok-none (verdict bs room) (ap is_ok (sym c.in_ok-check.ensures)) in
-    let header = sym none ∙ verdict-header bs room c.in_err-nodes.field-0.0 c.in_err-nodes.ensures in
+    let header = sym none ∙ verdict-header bs room c.in_err-reader.field-0.0 c.in_err-reader.ensures in
     let z : ◌≡◌ {A = ℕ} 0 1 = cc in absurd (omega arith)

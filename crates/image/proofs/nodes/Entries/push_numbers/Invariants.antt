@@ -1,0 +1,6 @@
+use Rattle.image.specs.Layout.{image_of}
+use Rattle.image.specs.Results.{numbers_below, Queued}
+use Rattle.image.proofs.nodes.Entries.push_numbers.Given as goal
+
+abbrev pub invariant-loop-e : goal.invariant-loop-e
+invariant-loop-e l = Queued (numbers_below (image_of l.self.reader.bytes.now) l.e) l.numbers l.len

@@ -1,7 +1,0 @@
-use Rattle.std.proofs.Common.{◌≡◌, ℕ, ◌<◌, ◌≤◌, get_or}
-use Rattle.image.specs.Layout.{image_of}
-use Rattle.image.specs.Nodes.{start, owner}
-use Rattle.image.proofs.nodes.find_owners.Given as goal
-
-abbrev pub invariant-loop-i : goal.invariant-loop-i
-invariant-loop-i l = (l.at ≡ start (image_of l.bytes) l.i) × ((e : ℕ) → 1 ≤ e → e < l.at → get_or l.owners e 0 ≡ owner (image_of l.bytes) e)
