@@ -103,6 +103,6 @@ module _ (bs : List ℕ) (room : ℕ) where
       ∙ (λ i. first_of (node_checks (image_of (sym same i)) (nodes i) (entries i) room))
 
 -- nothing leads to any node at the start
-pub led-none : (bs : List ℕ) → Led bs (replicate 128 0) 0
+pub led-none : (bs : List ℕ) → Led bs (replicate 128 None) 0
 unfolding leader_below
-led-none bs = record { enough = length-replicate {A = ℕ} 128 0; each = λ k h. get_or-replicate {A = ℕ} 128 k 0 0 h }
+led-none bs = record { enough = length-replicate {A = Option ℕ} 128 None; each = λ k h. get_or-replicate {A = Option ℕ} 128 k None None h }

@@ -19,11 +19,8 @@ unfolding Heap
 queued-none d items = subst (λ ns. Queued ns items 0) (sym (numbers-none d)) (record { long = refl; within = omega arith; shape = λ k x a b. absurd (omega arith); contents = refl })
 
 -- a push tells the next length where there is room
-pub pushed-next : (items : List ℕ) (n more : ℕ) → n < length items → Some more ≡ pushed items n → more ≡ n + 1
-pushed-next items n more l h = let e = h ∙ cond-true (ltb n (length items)) (Some (n + 1)) None (lt-ltb n (length items) l) in cc
-
-pub pushed_room : (items : List ℕ) (n : ℕ) → n < length items → None ≡ pushed items n → ⊥
-pushed_room items n l h = let e = h ∙ cond-true (ltb n (length items)) (Some (n + 1)) None (lt-ltb n (length items) l) in let z : ◌≡◌ {A = ℕ} 0 1 = cc in omega arith
+pub pushed-told : (items : List ℕ) (n : ℕ) → n < length items → pushed items n ≡ Some (n + 1)
+pushed-told items n l = cond-true (ltb n (length items)) (Some (n + 1)) None (lt-ltb n (length items) l)
 
 module _ (d : Image) (items : List ℕ) (n e : ℕ) (queued : Queued (numbers_below d e) items n) where
   -- an entry that is no label's

@@ -1,9 +1,12 @@
 -- One more index of a scan for the first that fails a test.
-use Rattle.std.proofs.Common.{◌≡◌, ℕ, zero, suc, ◌+◌, ◌-◌, ◌<◌, ◌≤◌, Bool, true, false, cond, not, ◌&&◌, eqb, List, [], ◌∷◌, ◌++◌, map, length, get_or, set, is_some, Some, None, Ok, Err, filter, sym, refl, ap, ◌∙◌, subst, ⊎_elim, add-one, arith}
+use Rattle.std.proofs.Common.{◌≡◌, ℕ, zero, suc, ◌+◌, ◌-◌, ◌<◌, ◌≤◌, Bool, true, false, cond, not, ◌&&◌, eqb, List, [], ◌∷◌, ◌++◌, map, length, get_or, set, is_some, Some, None, Ok, Err, Option, filter, unwrap_or, sym, refl, ap, ◌∙◌, subst, ⊎_elim, add-one, arith}
 use Rattle.std.proofs.lemmas.Bool.{cases_eq, cases_lt, cases_Bool, cond-true, cond-false, cond_both, eqb-true, eq-eqb, ne_eqb, le-leb}
 use Rattle.std.proofs.lemmas.Bool.Decides.{nat_tests}
 use Rattle.std.proofs.lemmas.List.Elements.{filter-append}
-use Rattle.std.specs.List.{range_with_len}
+use lib.ListN.{length-map}
+use Rattle.std.proofs.lemmas.List.Sums.{length-filter}
+use Rattle.std.specs.List.{range_with_len, list_all, find, count_by}
+use Rattle.std.proofs.lemmas.List.Folds.{list_all-append}
 use Rattle.std.proofs.lemmas.List.{append-nil, map-append, length-append, length-set, get_or-set_same, get_or-set_other}
 use Rattle.geometry.specs.declared.refusal.Reason.{Reason}
 use Rattle.geometry.specs.Refusals.{refusal}
@@ -11,9 +14,37 @@ use Rattle.geometry.specs.declared.refusal.Refusal.{Refusal}
 use Rattle.image.specs.Checks.{first_bad, at_first, unless, branch_fine, target_fine, led_to, inside_fine}
 use Rattle.image.specs.Layout.{Image, image_of}
 use Rattle.image.specs.Nodes.{start, is_leaf, owner, is_leaf_entry, is_branch, leader_below, leader, label_numbers}
-use Rattle.image.specs.Results.{as_result, Sized, Owned, Led, inside_of, numbers_below}
+use Rattle.image.specs.Results.{as_result, Sized, Owned, Led, leading, inside_of, numbers_below}
 use Rattle.image.specs.Ranges.{counting-append}
 use Rattle.image.specs.Owners.{start-more, start-rises, owner-is, owner-in}
+
+-- the first option, or else the second
+abbrev or_else : Option ℕ → Option ℕ → Option ℕ
+or_else (Some i) o = Some i
+or_else None o = o
+
+or_elim : (o p : Option ℕ) → elim o as (λ _. Option ℕ) [ Some i ↦ Some i | None ↦ p ] ≡ or_else o p
+or_elim (Some i) p = refl
+or_elim None p = refl
+
+none-else : (o : Option ℕ) (b : Bool) (i : ℕ) → (not (is_some o) && (b && true)) ≡ not (is_some (or_else o (cond b None (Some i))))
+none-else (Some j) b i = refl
+none-else None true i = refl
+none-else None false i = refl
+
+cond-not : (b : Bool) (x y : Option ℕ) → cond (not b) x y ≡ cond b y x
+cond-not true x y = refl
+cond-not false x y = refl
+
+find-append : (p : ℕ → Bool) (xs ys : List ℕ) → find p (xs ++ ys) ≡ or_else (find p xs) (find p ys)
+find-append p [] ys = refl
+find-append p (x ∷ xs) ys = ⊎_elim
+    (λ (t : p x ≡ true). cond-true (p x) (Some x) (find p (xs ++ ys)) t ∙ ap (λ o. or_else o (find p ys)) (sym (cond-true (p x) (Some x) (find p xs) t)))
+    (λ (u : p x ≡ false). cond-false (p x) (Some x) (find p (xs ++ ys)) u ∙ find-append p xs ys ∙ ap (λ o. or_else o (find p ys)) (sym (cond-false (p x) (Some x) (find p xs) u)))
+    (cases_Bool (p x))
+
+one-more : (n : ℕ) → range_with_len 0 (suc n) ≡ range_with_len 0 n ++ range_with_len (0 + n) 1
+one-more n = ap (range_with_len 0) (let w : suc n ≡ n + 1 = omega arith in w) ∙ counting-append 0 n 1
 
 module _ (f : ℕ → Bool) where
   pub bad-none : first_bad f 0 ≡ None
@@ -51,22 +82,27 @@ module _ (f : ℕ → Bool) where
   pub scan-stops : (why : ℕ → Reason) (i n : ℕ) → first_bad f i ≡ None → f i ≡ false → i < n → Err (refusal (why i) i) ≡ as_result (at_first (first_bad f n) why)
   scan-stops why i n h t l = ap (λ o. as_result (at_first o why)) (sym (bad-found i n h t l))
 
-  -- the same where all that counts is whether one fails
-  pub all_done : (r : Refusal) (i n : ℕ) → first_bad f i ≡ None → i ≤ n → n ≤ i → Ok tt ≡ as_result (unless (not (is_some (first_bad f n))) r)
-  all_done r i n h a b = ap (λ o. as_result (unless (not (is_some o)) r)) (sym h ∙ ap (first_bad f) (let e : i ≡ n = omega arith in e))
+  -- what looks through the numbers finds the same
+  first-next : (n : ℕ) → first_bad f (suc n) ≡ or_else (first_bad f n) (cond (f n) None (Some n))
+  unfolding first_bad
+  first-next n = or_elim (first_bad f n) (cond (f n) None (Some n))
 
-  pub all-stops : (r : Refusal) (i n : ℕ) → first_bad f i ≡ None → f i ≡ false → i < n → Err r ≡ as_result (unless (not (is_some (first_bad f n))) r)
-  all-stops r i n h t l = ap (λ o. as_result (unless (not (is_some o)) r)) (sym (bad-found i n h t l))
+  last-found : (n : ℕ) → find (λ i. not (f i)) (range_with_len (0 + n) 1) ≡ cond (f n) None (Some n)
+  last-found n = ap (λ k. find (λ i. not (f i)) (k ∷ [])) (let w : 0 + n ≡ n = omega arith in w) ∙ cond-not (f n) (Some n) None
 
--- one more place of a list is written
-pub written_same : (xs ys : List ℕ) (i v from : ℕ) → from ≤ i → ((k : ℕ) → k < from → get_or xs k 0 ≡ get_or ys k 0) → (k : ℕ) → k < from → get_or (set xs i v) k 0 ≡ get_or ys k 0
-written_same xs ys i v from l h k b = get_or-set_other xs i k v 0 (λ e. omega arith) ∙ h k b
+  pub find-bad : (n : ℕ) → find (λ i. not (f i)) (range_with_len 0 n) ≡ first_bad f n
+  find-bad zero = sym bad-none
+  find-bad (suc n) =
+      let p : ℕ → Bool = λ i. not (f i) in
+      ap (find p) (one-more n) ∙ find-append p (range_with_len 0 n) (range_with_len (0 + n) 1)
+      ∙ (λ i. or_else (find-bad n i) (last-found n i)) ∙ sym (first-next n)
 
-pub written-more : (xs : List ℕ) (i v from : ℕ) → i < length xs → ((k : ℕ) → from ≤ k → k < i → get_or xs k 0 ≡ v) → (k : ℕ) → from ≤ k → k < i + 1 → get_or (set xs i v) k 0 ≡ v
-written-more xs i v from l h k a b = ⊎_elim
-    (λ (e : k ≡ i). ap (λ j. get_or (set xs i v) j 0) e ∙ get_or-set_same xs i v 0 l)
-    (λ (u : k ≡ i → ⊥). get_or-set_other xs i k v 0 u ∙ h k a (omega (arith, u)))
-    (cases_eq k i)
+  pub all-fine : (n : ℕ) → list_all f (range_with_len 0 n) ≡ not (is_some (first_bad f n))
+  all-fine zero = ap (λ o. not (is_some o)) (sym bad-none)
+  all-fine (suc n) =
+      ap (list_all f) (one-more n) ∙ list_all-append f (range_with_len 0 n) (range_with_len (0 + n) 1)
+      ∙ (λ i. all-fine n i && (f ((let w : 0 + n ≡ n = omega arith in w) i) && true)) ∙ none-else (first_bad f n) (f n) n
+      ∙ ap (λ o. not (is_some o)) (sym (first-next n))
 
 -- one more node's entries
 module _ (d : Image) where
@@ -122,28 +158,45 @@ module _ (d : Image) where
   branch-first : (e : ℕ) → 1 ≤ e → is_leaf_entry d e ≡ false → target_fine d e ≡ true → leader_below d e (d.target e) ≡ 0
   branch-first e h f t = let b = branch-fine e h f t in grind (arith, nat_tests)
 
+-- what leads, in an option
+leading-some : (e : ℕ) → 1 ≤ e → Some e ≡ leading e
+leading-some zero h = absurd (omega arith)
+leading-some (suc e) h = refl
+
+leading-told : (e : ℕ) → is_some (leading e) ≡ not (eqb e 0)
+leading-told zero = refl
+leading-told (suc e) = sym (ap not (ne_eqb (suc e) 0 (λ q. omega (arith, q))))
+
+leading-or : (e : ℕ) → unwrap_or (leading e) 0 ≡ e
+leading-or zero = refl
+leading-or (suc e) = refl
+
+pub leading-none : (o : Option ℕ) (e : ℕ) → o ≡ leading e → not (is_some o) ≡ eqb e 0
+leading-none o zero q = ap (λ p. not (is_some p)) q
+leading-none o (suc e) q = ap (λ p. not (is_some p)) q ∙ sym (ne_eqb (suc e) 0 (λ q. omega (arith, q)))
+
 -- who leads to each node, with one more entry
-pub led-branch : (bs ls : List ℕ) (e : ℕ) → Led bs ls e → 1 ≤ e → is_leaf_entry (image_of bs) e ≡ false → target_fine (image_of bs) e ≡ true → (image_of bs).nodes ≤ 128 → Led bs (set ls ((image_of bs).target e) e) (e + 1)
+pub led-branch : (bs : List ℕ) (ls : List (Option ℕ)) (e : ℕ) → Led bs ls e → 1 ≤ e → is_leaf_entry (image_of bs) e ≡ false → target_fine (image_of bs) e ≡ true → (image_of bs).nodes ≤ 128 → Led bs (set ls ((image_of bs).target e) (Some e)) (e + 1)
 led-branch bs ls e l h f t few =
     let d = image_of bs in
     let to = d.target e in
     let b : is_branch d e ≡ true = grind (arith, nat_tests) in
     let in-it : to < 128 = omega (arith, branch-within d e h f t) in
     record {
-      enough = length-set ls to e ∙ l.enough;
+      enough = length-set ls to (Some e) ∙ l.enough;
       each = λ k w. ⊎_elim
-          (λ (q : k ≡ to). ap (λ j. get_or (set ls to e) j 0) q ∙ get_or-set_same ls to e 0 (omega (arith, l.enough)) ∙ sym (ap (leader_below d (e + 1)) q ∙ leads-first d e to b refl (branch-first d e h f t)))
-          (λ (u : k ≡ to → ⊥). get_or-set_other ls to k e 0 u ∙ l.each k w ∙ sym (lead-skips d e k (ap (λ x. is_branch d e && x) (ne_eqb to k (λ q. u (sym q))) ∙ ap (λ x. x && false) b)))
+          (λ (q : k ≡ to). ap (λ j. get_or (set ls to (Some e)) j None) q ∙ get_or-set_same ls to (Some e) None (omega (arith, l.enough)) ∙ leading-some e h ∙ ap leading (sym (ap (leader_below d (e + 1)) q ∙ leads-first d e to b refl (branch-first d e h f t))))
+          (λ (u : k ≡ to → ⊥). get_or-set_other ls to k (Some e) None u ∙ l.each k w ∙ ap leading (sym (lead-skips d e k (ap (λ x. is_branch d e && x) (ne_eqb to k (λ q. u (sym q))) ∙ ap (λ x. x && false) b))))
           (cases_eq k to);
     }
 
-pub led-other : (bs ls : List ℕ) (e : ℕ) → Led bs ls e → is_branch (image_of bs) e ≡ false → Led bs ls (e + 1)
-led-other bs ls e l f = record { enough = l.enough; each = λ k w. l.each k w ∙ sym (lead-skips (image_of bs) e k (ap (λ x. x && eqb ((image_of bs).target e) k) f)) }
+pub led-other : (bs : List ℕ) (ls : List (Option ℕ)) (e : ℕ) → Led bs ls e → is_branch (image_of bs) e ≡ false → Led bs ls (e + 1)
+led-other bs ls e l f = record { enough = l.enough; each = λ k w. l.each k w ∙ ap leading (sym (lead-skips (image_of bs) e k (ap (λ x. x && eqb ((image_of bs).target e) k) f))) }
 
-pub led-leaf : (bs ls : List ℕ) (e : ℕ) → Led bs ls e → is_leaf_entry (image_of bs) e ≡ true → Led bs ls (e + 1)
+pub led-leaf : (bs : List ℕ) (ls : List (Option ℕ)) (e : ℕ) → Led bs ls e → is_leaf_entry (image_of bs) e ≡ true → Led bs ls (e + 1)
 led-leaf bs ls e l t = led-other bs ls e l (grind (arith, nat_tests))
 
-pub led-root : (bs ls : List ℕ) (e : ℕ) → Led bs ls e → e < 1 → Led bs ls (e + 1)
+pub led-root : (bs : List ℕ) (ls : List (Option ℕ)) (e : ℕ) → Led bs ls e → e < 1 → Led bs ls (e + 1)
 led-root bs ls e l z = led-other bs ls e l (grind (arith, nat_tests))
 
 -- whether a node is led to
@@ -152,13 +205,9 @@ module _ (d : Image) where
   root-led zero h = refl
   root-led (suc k) h = absurd (omega arith)
 
-  pub node-led : (k v : ℕ) → 1 ≤ k → v ≡ leader d k → (v ≡ 0 → ⊥) → led_to d k ≡ true
-  node-led zero v h e u = absurd (omega arith)
-  node-led (suc k) v h e u = ap not (ne_eqb (leader d (suc k)) 0 (λ z. u (e ∙ z)))
-
-  pub node-not-led : (k v : ℕ) → 1 ≤ k → v ≡ leader d k → v ≡ 0 → led_to d k ≡ false
-  node-not-led zero v h e z = absurd (omega arith)
-  node-not-led (suc k) v h e z = ap not (eq-eqb (leader d (suc k)) 0 (sym e ∙ z))
+  pub node-led : (k : ℕ) (o : Option ℕ) → 1 ≤ k → o ≡ leading (leader d k) → is_some o ≡ led_to d k
+  node-led zero o h e = absurd (omega arith)
+  node-led (suc k) o h e = ap is_some e ∙ leading-told (leader d (suc k))
 
   lead-next : (e k : ℕ) → leader_below d e k ≤ e → leader_below d (suc e) k ≤ e
   unfolding leader_below
@@ -195,6 +244,13 @@ module _ (d : Image) where
   unfolding numbers_below label_numbers
   numbers-all = refl
 
+  -- as many as the leaf entries
+  pub labels-counted : (m : ℕ) → m ≡ d.entries → count_by (is_leaf_entry d) (range_with_len 0 m) ≡ length (label_numbers d)
+  unfolding label_numbers
+  labels-counted m q =
+      ap (λ k. count_by (is_leaf_entry d) (range_with_len 0 k)) q ∙ sym (length-filter (is_leaf_entry d) (range_with_len 0 d.entries))
+      ∙ sym (length-map (filter (is_leaf_entry d) (range_with_len 0 d.entries)) d.target)
+
   numbers-append : (e k : ℕ) → numbers_below d (e + k) ≡ numbers_below d e ++ map d.target (filter (is_leaf_entry d) (range_with_len e k))
   unfolding numbers_below
   numbers-append e k =
@@ -214,12 +270,14 @@ module _ (d : Image) where
       omega (arith, ap (λ k. length (numbers_below d k)) (let w : e + (m - e) ≡ m = omega arith in w), ap length (numbers-append e (m - e)), length-append (numbers_below d e) more)
 
 -- the entry whose box is that of an entry's node, by the two lists
-module _ (bs os ls : List ℕ) (n m : ℕ) (sized : Sized bs n m) (owned : Owned bs os n m) (led : Led bs ls m) (e : ℕ) (some : 1 ≤ e) (within : e < m) where
+module _ (bs os : List ℕ) (ls : List (Option ℕ)) (n m : ℕ) (sized : Sized bs n m) (owned : Owned bs os n m) (led : Led bs ls m) (e : ℕ) (some : 1 ≤ e) (within : e < m) where
   few-nodes : get_or os e 0 < 128
   few-nodes = omega (arith, owned.below e some within, sized.few.0)
 
-  pub leads-owner : get_or ls (get_or os e 0) 0 ≡ leader (image_of bs) (owner (image_of bs) e)
-  leads-owner = led.each (get_or os e 0) few-nodes ∙ (λ i. leader_below (image_of bs) (sized.entries i) (owned.each e some within i))
+  pub leads-owner : unwrap_or (get_or ls (get_or os e 0) None) 0 ≡ leader (image_of bs) (owner (image_of bs) e)
+  leads-owner =
+      ap (λ o. unwrap_or o 0) (led.each (get_or os e 0) few-nodes) ∙ leading-or (leader_below (image_of bs) m (get_or os e 0))
+      ∙ (λ i. leader_below (image_of bs) (sized.entries i) (owned.each e some within i))
 
-  pub leads-before : get_or ls (get_or os e 0) 0 < m
-  leads-before = omega (arith, led.each (get_or os e 0) few-nodes, leader-before (image_of bs) m (get_or os e 0) sized.some.1)
+  pub leads-before : unwrap_or (get_or ls (get_or os e 0) None) 0 < m
+  leads-before = omega (arith, ap (λ o. unwrap_or o 0) (led.each (get_or os e 0) few-nodes), leading-or (leader_below (image_of bs) m (get_or os e 0)), leader-before (image_of bs) m (get_or os e 0) sized.some.1)

@@ -1,5 +1,5 @@
 -- What the checks give, and what each of them takes for granted.
-use Rattle.std.specs.Prelude.{◌≡◌, ℕ, ◌<◌, ◌≤◌, Bool, not, ◌&&◌, List, [], ◌∷◌, map, length, take, is_some, Some, None, Ok, Err, filter, Option, Result, ◌==◌, nat_le, nat_lt, slice_index}
+use Rattle.std.specs.Prelude.{◌≡◌, ℕ, ◌<◌, ◌≤◌, Bool, not, ◌&&◌, List, [], ◌∷◌, map, length, take, is_some, Some, None, Ok, Err, filter, Option, Result, ◌==◌, nat_le, nat_lt, slice_index, slice_index_or, zero, suc}
 use Rattle.std.specs.List.{range_with_len}
 use Rattle.queue.specs.Order.{sorted}
 use Rattle.queue.specs.Shape.{Heap}
@@ -31,10 +31,19 @@ pub record Owned (bs os : List ℕ) (n m : ℕ) : Type 0 where
   pub each : (e : ℕ) → 1 ≤ e → e < m → slice_index os e ≡ owner (image_of bs) e
   pub below : (e : ℕ) → 1 ≤ e → e < m → slice_index os e < n
 
--- a list has for each node the entry below e that leads to it, or 0
-pub record Led (bs ls : List ℕ) (e : ℕ) : Type 0 where
+-- an entry that leads, or none for entry 0, which is no branch
+abbrev pub leading : ℕ → Option ℕ
+leading zero = None
+leading (suc e) = Some (suc e)
+
+-- a list has for each node the entry below e that leads to it, if one does
+pub record Led (bs : List ℕ) (ls : List (Option ℕ)) (e : ℕ) : Type 0 where
   pub enough : length ls ≡ 128
-  pub each : (k : ℕ) → k < 128 → slice_index ls k ≡ leader_below (image_of bs) e k
+  pub each : (k : ℕ) → k < 128 → slice_index_or ls k None ≡ leading (leader_below (image_of bs) e k)
+
+-- an entry leads to a node greater than its own, one level lower
+abbrev pub leads_down : Image → ℕ → Bool
+leads_down d e = nat_lt (owner d e) (d.target e) && nat_lt (d.target e) d.nodes && suc (d.level (d.target e)) == d.level (owner d e)
 
 -- the numbers of the labels among the first e entries
 unfoldable pub numbers_below : Image → ℕ → List ℕ
@@ -55,7 +64,7 @@ inside_of d b e = spanning (d.west b) (d.east b) (d.west e) (d.east e) && spanni
 abbrev pub in_size : ℕ → ℕ → Bool
 in_size n m = nat_le 1 n && nat_le n 128 && nat_le 1 m && nat_le m 1537
 
--- the checks of the header, of the tree, of the entries, and of the nodes and all after them, with N and M by themselves
+-- the checks of the header, and those from some point on: of what leads to a node, of the tree, of the entries, of the nodes, with N and M by themselves
 abbrev pub header_verdict : List ℕ → Option Refusal
 header_verdict bs = first_of (
     unless (nat_le 4 (length bs)) (refusal BadLength (length bs))
@@ -63,13 +72,15 @@ header_verdict bs = first_of (
     ∷ unless (length bs == image_length (image_of bs).nodes (image_of bs).entries) (refusal BadLength (length bs))
     ∷ [])
 
-abbrev pub tree_checks : Image → ℕ → ℕ → List (Option Refusal)
-tree_checks d n m =
-    at_first (first_bad (target_fine d) m) (target_reason d)
-    ∷ unless (not (is_some (first_bad (led_to d) n))) (refusal BadTarget m)
+abbrev pub lead_checks : Image → ℕ → ℕ → List (Option Refusal)
+lead_checks d n m =
+    unless (not (is_some (first_bad (led_to d) n))) (refusal BadTarget m)
     ∷ at_first (first_bad (inside_fine d) m) (λ _. OutsideBox)
     ∷ option_map (refusal BadNumber) (smallest_repeated (label_numbers d))
     ∷ []
+
+abbrev pub tree_checks : Image → ℕ → ℕ → List (Option Refusal)
+tree_checks d n m = at_first (first_bad (target_fine d) m) (target_reason d) ∷ lead_checks d n m
 
 abbrev pub entry_checks : Image → ℕ → ℕ → ℕ → List (Option Refusal)
 entry_checks d n m room =

@@ -1,13 +1,16 @@
 // The checks of the boxes.
-ghost use Rattle.std.specs.Prelude.{◌≡◌, ◌<◌, ◌&&◌, int_le};
+ghost use Rattle.std.specs.Prelude.{◌≡◌, ◌<◌, not, ◌&&◌, int_le};
+ghost use Rattle.std.specs.List.{range_with_len, find};
 ghost use Rattle.geometry.specs.declared.refusal.Reason.TheVariants.{BadBox, OutsideBox};
 ghost use Rattle.geometry.specs.Plane.{span, spanning};
 ghost use Rattle.image.specs.Layout.{image_of};
 ghost use Rattle.image.specs.Checks.{first_bad, at_first, box_fine, inside_fine};
-ghost use Rattle.image.specs.Results.{as_result, Led, inside_of};
+ghost use Rattle.image.specs.Results.{as_result, inside_of};
 
 use crate::nodes::Entries;
 use crate::reading::Reader;
+use crate::refusing::refuse_at;
+use crate::targets::Leads;
 use geometry::{Reason, Refusal};
 
 impl Reader<'_> {
@@ -66,34 +69,43 @@ impl Entries<'_> {
         true
     }
 
+    fn first_bad_box(self) -> Option<usize>
+        ensures { result ≡ find (λ e. not (box_fine (image_of self.entry.reader.bytes.now) e)) (range_with_len 0 self.entry.reader.entries) }
+    {
+        (0..self.reader.entries).find(|e| !self.is_box_fine(*e))
+    }
+
     // Every box is upright and on the map, and that of a label is one place.
     pub(crate) fn check_boxes(self) -> Result<(), Refusal>
         ensures { result ≡ as_result (at_first (first_bad (box_fine (image_of self.entry.reader.bytes.now)) self.entry.reader.entries) (λ _. BadBox)) }
     {
-        for e in 0..self.reader.entries {
-            if !self.is_box_fine(e) {
-                return Err(Refusal {
-                    reason: Reason::BadBox,
-                    place: e,
-                });
-            }
-        }
-        Ok(())
+        refuse_at(self.first_bad_box(), Reason::BadBox)
+    }
+}
+
+impl Leads<'_> {
+    // Whether entry `e`, if it is not entry 0, lies inside its node's box.
+    fn is_in_place(&self, e: usize) -> bool
+        requires { e < self.now.entries.reader.entries }
+        ensures { result ≡ inside_fine (image_of self.entry.now.entries.reader.bytes.now) e }
+    {
+        e == 0
+            || self
+                .entries
+                .reader
+                .is_inside(self.leaders[self.entries.owners[e]].unwrap_or(0), e)
+    }
+
+    fn first_out_of_place(&self) -> Option<usize>
+        ensures { result ≡ find (λ e. not (inside_fine (image_of self.entry.now.entries.reader.bytes.now) e)) (range_with_len 0 self.entry.now.entries.reader.entries) }
+    {
+        (0..self.entries.reader.entries).find(|e| !self.is_in_place(*e))
     }
 
     // Every entry but entry 0 lies inside its node's box.
-    pub(crate) fn check_inside(self, leaders: &[usize]) -> Result<(), Refusal>
-        requires { Led self.reader.bytes.now leaders.now self.reader.entries }
-        ensures { result ≡ as_result (at_first (first_bad (inside_fine (image_of self.entry.reader.bytes.now)) self.entry.reader.entries) (λ _. OutsideBox)) }
+    pub(crate) fn check_inside(&self) -> Result<(), Refusal>
+        ensures { result ≡ as_result (at_first (first_bad (inside_fine (image_of self.entry.now.entries.reader.bytes.now)) self.entry.now.entries.reader.entries) (λ _. OutsideBox)) }
     {
-        for e in 0..self.reader.entries {
-            if e >= 1 && !self.reader.is_inside(leaders[self.owners[e]], e) {
-                return Err(Refusal {
-                    reason: Reason::OutsideBox,
-                    place: e,
-                });
-            }
-        }
-        Ok(())
+        refuse_at(self.first_out_of_place(), Reason::OutsideBox)
     }
 }

@@ -3,10 +3,11 @@ ghost use Rattle.std.specs.Prelude.{◌≡◌, ◌≤◌, length, Some, None, Ma
 ghost use Rattle.image.specs.Layout.{image_of};
 ghost use Rattle.image.specs.Nodes.{start, label_numbers};
 ghost use Rattle.image.specs.Checks.{first_of, verdict};
-ghost use Rattle.image.specs.Results.{as_result, in_size, header_verdict, tree_checks, entry_checks, node_checks};
+ghost use Rattle.image.specs.Results.{as_result, in_size, header_verdict, lead_checks, tree_checks, entry_checks, node_checks};
 
 use crate::nodes::{Entries, MOST_NODES};
 use crate::reading::Reader;
+use crate::targets::Leads;
 use geometry::{Reason, Refusal};
 
 const MOST_ENTRIES: usize = 1537;
@@ -48,17 +49,25 @@ pub(crate) fn read_sizes(bytes: &[u8]) -> Result<Reader<'_>, Refusal>
     })
 }
 
+impl Leads<'_> {
+    // The checks of what is led to, and of what the entries hold.
+    fn check(&self, numbers: &mut [u32]) -> Result<(), Refusal>
+        requires { length (label_numbers (image_of self.now.entries.reader.bytes.now)) ≤ length numbers.old }
+        ensures { result ≡ as_result (first_of (lead_checks (image_of self.entry.now.entries.reader.bytes.now) self.entry.now.entries.reader.nodes self.entry.now.entries.reader.entries)) }
+    {
+        self.check_led()?;
+        self.check_inside()?;
+        self.entries.check_numbers(numbers)
+    }
+}
+
 impl Entries<'_> {
     // The checks of what the entries lead to and hold.
     fn check_tree(self, numbers: &mut [u32]) -> Result<(), Refusal>
         requires { length (label_numbers (image_of self.reader.bytes.now)) ≤ length numbers.old }
         ensures { result ≡ as_result (first_of (tree_checks (image_of self.entry.reader.bytes.now) self.entry.reader.nodes self.entry.reader.entries)) }
     {
-        let mut leaders = [0usize; MOST_NODES];
-        self.check_targets(&mut leaders)?;
-        self.check_led(&leaders)?;
-        self.check_inside(&leaders)?;
-        self.check_numbers(numbers)
+        self.check_targets()?.check(numbers)
     }
 
     // The checks of the entries.

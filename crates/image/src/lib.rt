@@ -6,6 +6,7 @@ mod checks;
 mod nodes;
 mod numbers;
 mod reading;
+mod refusing;
 mod slots;
 pub mod store;
 mod targets;

@@ -1,5 +1,5 @@
 // The checks of the nodes, and the node of each entry.
-ghost use Rattle.std.specs.Prelude.{◌≡◌, ℕ, ◌<◌, ◌≤◌, length, ◌==◌, slice_index};
+ghost use Rattle.std.specs.Prelude.{◌≡◌, ℕ, ◌+◌, ◌<◌, ◌≤◌, length, ◌==◌, slice_index};
 ghost use Rattle.geometry.specs.declared.refusal.Reason.TheVariants.{BadSize};
 ghost use Rattle.geometry.specs.Refusals.{refusal};
 ghost use Rattle.image.specs.Layout.{image_of};
@@ -8,6 +8,7 @@ ghost use Rattle.image.specs.Checks.{first_bad, at_first, unless, node_fine};
 ghost use Rattle.image.specs.Results.{as_result, Owned};
 
 use crate::reading::Reader;
+use crate::refusing::refuse_unless;
 use geometry::{Reason, Refusal};
 
 // An image has no more nodes.
@@ -27,9 +28,7 @@ fn write_all(list: &mut [usize], from: usize, to: usize, v: usize)
     ensures before { (k : ℕ) → k < from → slice_index list.new k ≡ slice_index list.old k }
     ensures within { (k : ℕ) → from ≤ k → k < to → slice_index list.new k ≡ v }
 {
-    for k in from..to {
-        list[k] = v;
-    }
+    list[from..to].fill(v);
 }
 
 impl<'a> Reader<'a> {
@@ -56,16 +55,15 @@ impl<'a> Reader<'a> {
         Ok(())
     }
 
-    // The entry in slot 0 of node `i`.
-    pub(crate) fn start(self, i: usize) -> usize
-        requires { i ≤ self.nodes }
-        ensures { result ≡ start (image_of self.entry.bytes.now) i }
+    // The entry after those of all nodes.
+    fn end(self) -> usize
+        ensures { result ≡ start (image_of self.entry.bytes.now) self.entry.nodes }
     {
-        let mut first = 1;
-        for k in 0..i {
-            first += self.count(k) as usize;
+        let mut end = 1;
+        for i in 0..self.nodes {
+            end += self.count(i) as usize;
         }
-        first
+        end
     }
 
     // The entry in slot 0 of each node.
@@ -85,13 +83,7 @@ impl<'a> Reader<'a> {
     pub(crate) fn check_sum(self) -> Result<(), Refusal>
         ensures { result ≡ as_result (unless (start (image_of self.entry.bytes.now) self.entry.nodes == self.entry.entries) (refusal BadSize self.entry.nodes)) }
     {
-        if self.start(self.nodes) != self.entries {
-            return Err(Refusal {
-                reason: Reason::BadSize,
-                place: self.nodes,
-            });
-        }
-        Ok(())
+        refuse_unless(self.end() == self.entries, Reason::BadSize, self.nodes)
     }
 
     // Finds the node of each entry.

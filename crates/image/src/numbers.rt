@@ -1,16 +1,18 @@
 // The checks of the label numbers.
 ghost use Rattle.std.specs.Prelude.{◌≡◌, ◌+◌, ◌<◌, ◌≤◌, length, take, nat_le, nat_lt};
+ghost use Rattle.std.specs.List.{range_with_len, count_by};
 ghost use Rattle.std.specs.Option.{option_map};
 ghost use Rattle.queue.specs.Order.{sorted};
 ghost use Rattle.queue.specs.Shape.{Heap};
 ghost use Rattle.geometry.specs.declared.refusal.Reason.TheVariants.{BadNumber, ShortWorkList};
 ghost use Rattle.geometry.specs.Refusals.{refusal};
 ghost use Rattle.image.specs.Layout.{image_of};
-ghost use Rattle.image.specs.Nodes.{label_numbers};
+ghost use Rattle.image.specs.Nodes.{is_leaf_entry, label_numbers};
 ghost use Rattle.image.specs.Checks.{unless, repeated_in, smallest_repeated};
 ghost use Rattle.image.specs.Results.{as_result, Queued, numbers_below};
 
 use crate::nodes::Entries;
+use crate::refusing::{refuse_at, refuse_unless};
 use geometry::{Reason, Refusal};
 use queue::{pop, push};
 
@@ -37,15 +39,11 @@ fn first_repeated(items: &mut [u32], len: usize) -> Option<u32>
 impl Entries<'_> {
     // How many labels there are.
     fn label_count(self) -> usize
-        ensures { result ≡ length (label_numbers (image_of self.entry.reader.bytes.now)) }
+        ensures { result ≡ count_by (is_leaf_entry (image_of self.entry.reader.bytes.now)) (range_with_len 0 self.entry.reader.entries) }
     {
-        let mut count = 0;
-        for e in 0..self.reader.entries {
-            if self.is_leaf_entry(e) {
-                count += 1;
-            }
-        }
-        count
+        (0..self.reader.entries)
+            .filter(|e| self.is_leaf_entry(*e))
+            .count()
     }
 
     // The list of numbers has room for that of every label.
@@ -53,13 +51,7 @@ impl Entries<'_> {
         ensures { result ≡ as_result (unless (nat_le (length (label_numbers (image_of self.entry.reader.bytes.now))) room) (refusal ShortWorkList (length (label_numbers (image_of self.entry.reader.bytes.now))))) }
     {
         let count = self.label_count();
-        if count > room {
-            return Err(Refusal {
-                reason: Reason::ShortWorkList,
-                place: count,
-            });
-        }
-        Ok(())
+        refuse_unless(count <= room, Reason::ShortWorkList, count)
     }
 
     // Puts the number of entry `e` into the queue, if it is a label's, and gives the new length.
@@ -72,10 +64,7 @@ impl Entries<'_> {
         if !self.is_leaf_entry(e) {
             return len;
         }
-        match push(numbers, len, self.reader.target(e)) {
-            Some(more) => more,
-            None => len,
-        }
+        push(numbers, len, self.reader.target(e)).unwrap_or(len)
     }
 
     // Makes a queue of the numbers of all labels, and gives its length.
@@ -96,12 +85,9 @@ impl Entries<'_> {
         ensures { result ≡ as_result (option_map (refusal BadNumber) (smallest_repeated (label_numbers (image_of self.entry.reader.bytes.now)))) }
     {
         let len = self.push_numbers(numbers);
-        match first_repeated(numbers, len) {
-            Some(x) => Err(Refusal {
-                reason: Reason::BadNumber,
-                place: x as usize,
-            }),
-            None => Ok(()),
-        }
+        refuse_at(
+            first_repeated(numbers, len).map(|x| x as usize),
+            Reason::BadNumber,
+        )
     }
 }

@@ -1,4 +1,4 @@
-use Rattle.std.proofs.Common.{ℕ, ◌+◌, ◌≤◌, set, sym, subst, arith}
+use Rattle.std.proofs.Common.{ℕ, ◌+◌, ◌≤◌, set, Some, sym, subst, arith}
 use Rattle.image.specs.Layout.{image_of}
 use Rattle.image.specs.Results.{Led}
 use Rattle.image.proofs.Scanning.{led-branch, led-leaf, led-root}
@@ -9,7 +9,7 @@ pub returns-then-not-is_leaf_entry : goal.returns-then-not-is_leaf_entry
 returns-then-not-is_leaf_entry c =
     let bs = c.args.self.reader.bytes.now in
     let few : (image_of bs).nodes ≤ 128 = omega arith in
-    let P : ℕ → Type 0 = λ to. Led bs (set c.args.leaders.now to c.args.e) (c.args.e + 1) in
+    let P : ℕ → Type 0 = λ to. Led bs (set c.args.leaders.now to (Some c.args.e)) (c.args.e + 1) in
     subst P (sym c.target.ensures) (led-branch bs c.args.leaders.now c.args.e c.requires.led c.if-e-ge1.true (sym c.if-not-is_leaf_entry.ensures) c.requires.fine few)
 
 pub returns-else-e-ge1 : goal.returns-else-e-ge1

@@ -1,24 +1,17 @@
-use Rattle.std.proofs.Common.{sym}
+use Rattle.std.proofs.Common.{◌≡◌, ◌+◌, sym, ap, ◌∙◌, unwrap_or}
 use Rattle.image.specs.Layout.{image_of}
-use Rattle.image.proofs.Queueing.{pushed-next, pushed_room, queued-other, queued-room, queued-leaf}
+use Rattle.image.proofs.Queueing.{pushed-told, queued-other, queued-room, queued-leaf}
 use Rattle.image.proofs.nodes.Entries.push_number.Goals as goal
 
 pub returns-then-not-is_leaf_entry : goal.returns-then-not-is_leaf_entry
 returns-then-not-is_leaf_entry c = queued-other (image_of c.args.self.reader.bytes.now) c.args.numbers.now c.args.len c.args.e c.requires.queued (sym c.if-not-is_leaf_entry.ensures)
 
-pub returns-in-Some : goal.returns-in-Some
-returns-in-Some c =
-    let d = image_of c.args.self.reader.bytes.now in
+pub returns : goal.returns
+returns c =
+    let r = c.args.self.reader in
+    let d = image_of r.bytes.now in
     let items = c.args.numbers.now in
     let leaf = sym c.if-not-is_leaf_entry.ensures in
-    let room = queued-room d items c.args.len c.args.e c.requires.queued c.args.self.reader.entries c.args.self.reader.sized.entries c.requires.within leaf c.requires.room in
-    let told = c.in-Some.ensures in
-    queued-leaf d items c.args.len c.args.e c.requires.queued c.push.new.items c.target.result c.in-Some.more leaf c.target.ensures room c.push.auto.items (pushed-next items c.args.len c.in-Some.more room told.told) told.queue
-
-pub returns-in-None : goal.returns-in-None
-returns-in-None c =
-    let d = image_of c.args.self.reader.bytes.now in
-    let items = c.args.numbers.now in
-    let leaf = sym c.if-not-is_leaf_entry.ensures in
-    let room = queued-room d items c.args.len c.args.e c.requires.queued c.args.self.reader.entries c.args.self.reader.sized.entries c.requires.within leaf c.requires.room in
-    absurd (pushed_room items c.args.len room c.in-None.ensures.told)
+    let room = queued-room d items c.args.len c.args.e c.requires.queued r.entries r.sized.entries c.requires.within leaf c.requires.room in
+    let more = c.unwrap_or.ensures ∙ ap (λ o. unwrap_or o c.args.len) (c.push.ensures.told ∙ pushed-told items c.args.len room) in
+    queued-leaf d items c.args.len c.args.e c.requires.queued c.push.new.items c.target.result c.unwrap_or.result leaf c.target.ensures room c.push.auto.items more c.push.ensures.queue

@@ -1,7 +1,0 @@
-use Rattle.std.proofs.Common.{◌≡◌, None}
-use Rattle.image.specs.Layout.{image_of}
-use Rattle.image.specs.Checks.{first_bad, inside_fine}
-use Rattle.image.proofs.nodes.Entries.check_inside.Given as goal
-
-abbrev pub invariant-loop-e : goal.invariant-loop-e
-invariant-loop-e l = first_bad (inside_fine (image_of l.self.reader.bytes.now)) l.e ≡ None
