@@ -7,8 +7,8 @@ use Rattle.geometry.specs.declared.refusal.Refusal.{Refusal}
 use Rattle.geometry.specs.declared.refusal.Reason.TheVariants.{BadLength, BadSize}
 use Rattle.geometry.specs.Refusals.{refusal}
 use Rattle.image.specs.Layout.{two, image_length, image_of}
-use Rattle.image.specs.Nodes.{start, leader_below}
-use Rattle.image.specs.Checks.{first_bad, unless, at_first, sizes_fine, node_fine, first_of, checks, verdict}
+use Rattle.image.specs.Nodes.{leader_below}
+use Rattle.image.specs.Checks.{unless, sizes_fine, first_of, checks, verdict}
 use Rattle.image.specs.Results.{as_result, Sized, Led, in_size, header_verdict, node_checks}
 use Rattle.image.proofs.Written.{nodes-is, entries-is}
 

@@ -10,8 +10,7 @@ use Rattle.std.proofs.lemmas.List.Folds.{list_all-append}
 use Rattle.std.proofs.lemmas.List.{append-nil, map-append, length-append, length-set, get_or-set_same, get_or-set_other}
 use Rattle.geometry.specs.declared.refusal.Reason.{Reason}
 use Rattle.geometry.specs.Refusals.{refusal}
-use Rattle.geometry.specs.declared.refusal.Refusal.{Refusal}
-use Rattle.image.specs.Checks.{first_bad, at_first, unless, branch_fine, target_fine, led_to, inside_fine}
+use Rattle.image.specs.Checks.{first_bad, at_first, branch_fine, target_fine, led_to, inside_fine}
 use Rattle.image.specs.Layout.{Image, image_of}
 use Rattle.image.specs.Nodes.{start, is_leaf, owner, is_leaf_entry, is_branch, leader_below, leader, label_numbers}
 use Rattle.image.specs.Results.{as_result, Sized, Owned, Led, leading, inside_of, numbers_below}

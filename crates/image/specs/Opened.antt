@@ -1,12 +1,11 @@
 -- The open node of an image, and its slots.
-use Rattle.std.specs.Prelude.{ℕ, Bool, true, ◌&&◌, Some, None, Ok, Err, Option, Result, ◌==◌, nat_lt}
+use Rattle.std.specs.Prelude.{ℕ, Bool, true, Some, None, Ok, Err, Option, Result, nat_lt}
 use Rattle.geometry.specs.declared.label.Label.{Label}
 use Rattle.geometry.specs.declared.rect.Rect.{Rect}
 use Rattle.geometry.specs.declared.refusal.Refusal.{Refusal}
 use Rattle.index.specs.declared.slot.Slot.{Slot}
 use Rattle.index.specs.declared.slot.Slot.TheVariants.{Empty, Holds, Leads}
 use Rattle.image.specs.Layout.{Image}
-use Rattle.image.specs.Nodes.{start}
 
 -- no node is open, or one of the image's
 abbrev pub has_open : Image → Option ℕ → Bool

@@ -30,6 +30,7 @@ impl Reader<'_> {
     }
 
     // The level of node `i`.
+    #[tactic(auto, unfolding(crate::specs::Layout::image_of))]
     pub(crate) fn level(self, i: usize) -> u8
         requires { i < self.nodes }
         ensures { result ≡ (image_of self.entry.bytes.now).level i }
@@ -38,6 +39,7 @@ impl Reader<'_> {
     }
 
     // How many entries node `i` has.
+    #[tactic(auto, unfolding(crate::specs::Layout::image_of))]
     pub(crate) fn count(self, i: usize) -> u8
         requires { i < self.nodes }
         ensures { result ≡ (image_of self.entry.bytes.now).count i }
@@ -53,6 +55,7 @@ impl Reader<'_> {
         i32::from_be_bytes(self.four_at(4 + 2 * self.nodes + 16 * e + after))
     }
 
+    #[tactic(auto, unfolding(crate::specs::Layout::image_of))]
     pub(crate) fn west(self, e: usize) -> i32
         requires { e < self.entries }
         ensures { result ≡ (image_of self.entry.bytes.now).west e }
@@ -60,6 +63,7 @@ impl Reader<'_> {
         self.side(e, 0)
     }
 
+    #[tactic(auto, unfolding(crate::specs::Layout::image_of))]
     pub(crate) fn south(self, e: usize) -> i32
         requires { e < self.entries }
         ensures { result ≡ (image_of self.entry.bytes.now).south e }
@@ -67,6 +71,7 @@ impl Reader<'_> {
         self.side(e, 4)
     }
 
+    #[tactic(auto, unfolding(crate::specs::Layout::image_of))]
     pub(crate) fn east(self, e: usize) -> i32
         requires { e < self.entries }
         ensures { result ≡ (image_of self.entry.bytes.now).east e }
@@ -74,6 +79,7 @@ impl Reader<'_> {
         self.side(e, 8)
     }
 
+    #[tactic(auto, unfolding(crate::specs::Layout::image_of))]
     pub(crate) fn north(self, e: usize) -> i32
         requires { e < self.entries }
         ensures { result ≡ (image_of self.entry.bytes.now).north e }
@@ -90,6 +96,7 @@ impl Reader<'_> {
     }
 
     // What entry `e` leads to.
+    #[tactic(auto, unfolding(crate::specs::Layout::image_of))]
     pub(crate) fn target(self, e: usize) -> u32
         requires { e < self.entries }
         ensures { result ≡ (image_of self.entry.bytes.now).target e }

@@ -15,13 +15,6 @@ returns-then-rest-nodes c =
     let long : 4 ≤ length bs = search rules in
     header-long bs (two bs 0) (two bs 2) long refl refl (sym c.if-not-is_in_size.ensures) (λ e. c.if-rest-nodes.true (omega (arith, rest-length bs, e)))
 
-pub returns : goal.returns
-returns c =
-    let bs = c.args.bytes.now in
-    let long : 4 ≤ length bs = search rules in
-    let whole : length bs ≡ image_length (two bs 0) (two bs 2) = omega (arith, rest-length bs, c.if-rest-nodes.false) in
-    ((header-fine bs (two bs 0) (two bs 2) long refl refl (sym c.if-not-is_in_size.ensures) whole).0, refl)
-
 pub invariant_of-result : goal.invariant_of-result
 invariant_of-result c =
     let bs = c.args.bytes.now in

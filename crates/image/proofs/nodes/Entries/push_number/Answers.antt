@@ -1,4 +1,4 @@
-use Rattle.std.proofs.Common.{◌≡◌, ◌+◌, sym, ap, ◌∙◌, unwrap_or}
+use Rattle.std.proofs.Common.{sym, ap, ◌∙◌, unwrap_or}
 use Rattle.image.specs.Layout.{image_of}
 use Rattle.image.proofs.Queueing.{pushed-told, queued-other, queued-room, queued-leaf}
 use Rattle.image.proofs.nodes.Entries.push_number.Goals as goal

@@ -1,10 +1,10 @@
-use Rattle.std.proofs.Common.{◌<◌, ◌≤◌, ◌⊎◌, length, get_or, inl, inr, rules}
+use Rattle.std.proofs.Common.{◌<◌, ◌≤◌, ◌⊎◌, get_or, inl, inr}
 use Rattle.std.proofs.lemmas.List.{take_rest}
 use Rattle.geometry.specs.declared.refusal.Reason.TheVariants.{BadSize}
 use Rattle.image.specs.Layout.{image_of}
 use Rattle.image.specs.Checks.{node_fine}
-use Rattle.image.proofs.Written.{node-good, node-bad, node-past, node-there}
-use Rattle.image.proofs.Scanning.{bad-none, bad_more, scan-done, scan-stops}
+use Rattle.image.proofs.Written.{node-good, node-bad, node-past}
+use Rattle.image.proofs.Scanning.{bad-none, bad_more, scan-stops}
 use Rattle.image.proofs.reading.Reader.check_nodes.Goals as goal
 use Rattle.image.proofs.reading.Reader.check_nodes.Goals.{then-level-gt7-via-then-level-gt7, then-level-gt7-via-else-level-gt7+then-count-gt12}
 
@@ -17,13 +17,6 @@ loop-i-preserved c =
     let l = c.loop-i in
     (node-past bs l.left.now l.i l.invariant.0, bad_more (node_fine (image_of bs)) l.i l.invariant.1 (node-good bs l.left.now l.i l.invariant.0 c.if-level-gt7.false c.if-count-gt12.false))
 
-pub returns-in_default-left : goal.returns-in_default-left
-returns-in_default-left c =
-    let bs = c.args.self.bytes.now in
-    let l = c.loop-i in
-    let short : length l.left.now < 2 = search rules in
-    absurd (node-there bs l.left.now l.i l.invariant.0 c.args.self.nodes c.args.self.entries c.args.self.sized c.loop-i-test.true short)
-
 pub returns-then-level-gt7 : goal.returns-then-level-gt7
 returns-then-level-gt7 c =
     let bs = c.args.self.bytes.now in
@@ -33,6 +26,3 @@ returns-then-level-gt7 c =
       | then-level-gt7-via-else-level-gt7+then-count-gt12 w ↦ inr (w.if-level-gt7.false, w.if-count-gt12.true)
     ] in
     scan-stops (node_fine (image_of bs)) (λ _. BadSize) l.i c.args.self.nodes l.invariant.1 (node-bad bs l.left.now l.i l.invariant.0 bad) c.loop-i-test.true
-
-pub returns : goal.returns
-returns c = scan-done (node_fine (image_of c.args.self.bytes.now)) (λ _. BadSize) c.loop-i.i c.args.self.nodes c.loop-i.invariant.1 c.loop-i.auto.i-end c.loop-i-test.false

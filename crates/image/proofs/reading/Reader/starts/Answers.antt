@@ -1,4 +1,4 @@
-use Rattle.std.proofs.Common.{◌≡◌, sym, refl, ◌∙◌, arith}
+use Rattle.std.proofs.Common.{sym, refl, ◌∙◌, arith}
 use Rattle.std.proofs.lemmas.List.{length-set}
 use Rattle.image.specs.Layout.{image_of}
 use Rattle.image.specs.Owners.{start-zero}
@@ -13,6 +13,3 @@ loop-i-preserved c =
     let d = image_of c.args.self.bytes.now in
     let l = c.loop-i in
     (omega (arith, start-next d l.i), omega arith, length-set l.starts l.i l.first ∙ l.invariant.2, starts-more d l.starts l.i l.first (omega (arith, l.invariant.2)) l.invariant.0 l.invariant.3)
-
-pub returns : goal.returns
-returns c = λ i h. c.loop-i.invariant.3 i (omega arith)

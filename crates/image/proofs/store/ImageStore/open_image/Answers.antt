@@ -1,4 +1,4 @@
-use Rattle.std.proofs.Common.{◌≡◌, ℕ, true, false, length, is_some, is_ok, Err, sym, refl, ap, ◌∙◌, subst, arith}
+use Rattle.std.proofs.Common.{◌≡◌, ℕ, false, length, is_some, is_ok, Err, sym, refl, ap, ◌∙◌, subst, arith}
 use Rattle.std.proofs.lemmas.Result.{err_from_is_err_and}
 use Rattle.std.proofs.lemmas.Bool.{both_ways}
 use Rattle.index.specs.Laws.{Lawful}
@@ -14,26 +14,13 @@ use Rattle.image.specs.Lawfulness.{lawful-table}
 use Rattle.image.proofs.Showing.{accepted-roomy, ok-none, has-entries}
 use Rattle.image.proofs.store.ImageStore.open_image.Goals as goal
 
-pub returns-in_err-check : goal.returns-in_err-check
-returns-in_err-check c =
+pub returns-in_err-check-clause-exactly : goal.returns-in_err-check-clause-exactly
+returns-in_err-check-clause-exactly c fits =
     let bs = c.args.bytes.now in
     let room = length c.args.numbers.now in
     let p = err_from_is_err_and c.from_residual.result c.from_residual.ensures.1 in
     let told : c.from_residual.result ≡ as_result (verdict bs room) = p.1 ∙ ap (λ e. Err e) p.2 ∙ c.in_err-check.ensures in
-    let never : is_ok c.from_residual.result ≡ false = ap is_ok p.1 in
-    record {
-      told = told;
-      accepted = λ h. absurd (both_ways (is_ok c.from_residual.result) never h);
-      refused = λ _. refl;
-      exactly = λ fits. (λ h. absurd (both_ways (is_ok c.from_residual.result) never h), λ o. ap is_ok told ∙ ap (λ v. is_ok (as_result v)) (obeys-accepted bs room fits o));
-      lawful = λ h. absurd (both_ways (is_ok c.from_residual.result) never h);
-    }
-
-pub refill-requires : goal.refill-requires
-refill-requires c =
-    let bs = c.args.bytes.now in
-    let a = accepted (image_of bs) (length bs) (length c.args.numbers.now) (ok-none (verdict bs (length c.args.numbers.now)) (ap is_ok (sym c.in_ok-check.ensures))) in
-    omega (arith, a.whole, a.passed.nodes.1, a.passed.entries.1, c.args.self.now.roomy)
+    (λ h. absurd (both_ways (is_ok c.from_residual.result) (ap is_ok p.1) h), λ o. ap is_ok told ∙ ap (λ v. is_ok (as_result v)) (obeys-accepted bs room fits o))
 
 pub invariant_of-self : goal.invariant_of-self
 invariant_of-self c =
@@ -51,25 +38,24 @@ invariant_of-self c =
       within = ap (has_open (image_of c.refill.new.list.items)) c.new-self.ensures.node;
     }
 
-pub returns : goal.returns
-returns c =
+pub returns-clause-exactly : goal.returns-clause-exactly
+returns-clause-exactly c fits =
+    let bs = c.args.bytes.now in
+    let room = length c.args.numbers.now in
+    (λ _. accepted-obeys bs room (ok-none (verdict bs room) (ap is_ok (sym c.in_ok-check.ensures))), λ _. refl)
+
+pub returns-clause-lawful : goal.returns-clause-lawful
+returns-clause-lawful c h =
     let bs = c.args.bytes.now in
     let room = length c.args.numbers.now in
     let none = ok-none (verdict bs room) (ap is_ok (sym c.in_ok-check.ensures)) in
-    let same = sym c.refill.ensures.items in
-    record {
-      told = c.in_ok-check.ensures;
-      accepted = λ _. record { table = ap (λ l. table_of (image_of l)) c.refill.ensures.items; closed = c.new-self.ensures.node; meter = c.new-self.ensures.meter };
-      refused = λ h. absurd (both_ways true h refl);
-      exactly = λ fits. (λ _. accepted-obeys bs room none, λ _. refl);
-      lawful = λ _. (
-        subst (λ l. Lawful (table_of (image_of l))) same (lawful-table (image_of bs) (accepted (image_of bs) (length bs) room none).passed),
-        subst (λ l. HasEntries (image_of bs) (table_of (image_of l))) same (has-entries bs room none),
-      );
-    }
+    let same = sym c.refill.ensures.items in (
+      subst (λ l. Lawful (table_of (image_of l))) same (lawful-table (image_of bs) (accepted (image_of bs) (length bs) room none).passed),
+      subst (λ l. HasEntries (image_of bs) (table_of (image_of l))) same (has-entries bs room none),
+    )
 
-pub returns-in_err-reader : goal.returns-in_err-reader
-returns-in_err-reader c =
+pub returns-in_err-reader-clause-told : goal.returns-in_err-reader-clause-told
+returns-in_err-reader-clause-told c =
     let bs = c.args.bytes.now in
     let room = length c.args.numbers.now in
     let none = ok-none (verdict bs room) (ap is_ok (sym c.in_ok-check.ensures)) in

@@ -1,5 +1,5 @@
-use Rattle.std.proofs.Common.{◌≡◌, ◌<◌, ◌≤◌, sym, ap, ◌∙◌, subst, arith, ℕ}
-use Rattle.image.proofs.Scanning.{root-inside, entry-inside, leads-owner, leads-before}
+use Rattle.std.proofs.Common.{◌≤◌, arith}
+use Rattle.image.proofs.Scanning.{leads-before}
 use Rattle.image.proofs.targets.Leads.is_in_place.Goals as goal
 
 pub is_inside-requires : goal.is_inside-requires

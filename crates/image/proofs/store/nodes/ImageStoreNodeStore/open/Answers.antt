@@ -1,8 +1,6 @@
-use Rattle.std.proofs.Common.{◌≡◌, vec_items, sym, ap, ◌∙◌}
+use Rattle.std.proofs.Common.{vec_items, sym, ap, ◌∙◌}
 use Rattle.index.specs.Opening.{result_among, node_among, meter_among}
-use Rattle.index.specs.Table.{node_count}
 use Rattle.image.specs.Layout.{image_of}
-use Rattle.image.specs.Nodes.{table_of}
 use Rattle.image.specs.Lawfulness.{node-count}
 use Rattle.image.proofs.store.nodes.ImageStoreNodeStore.open.Goals as goal
 
