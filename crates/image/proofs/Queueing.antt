@@ -1,7 +1,7 @@
 -- The label numbers in a queue, and the first that comes twice.
-use Rattle.std.proofs.Common.{◌≡◌, ℕ, ◌+◌, ◌<◌, ◌≤◌, true, false, eqb, ltb, List, [], ◌∷◌, ◌++◌, length, take, Some, None, Option, sym, refl, ap, ◌∙◌, subst, arith}
+use Rattle.std.proofs.Common.{◌≡◌, ℕ, ◌+◌, ◌<◌, ◌≤◌, true, false, ltb, List, [], ◌∷◌, ◌++◌, length, take, Some, None, Option, sym, refl, ap, ◌∙◌, subst, arith}
 use Rattle.std.proofs.lemmas.List.{length_push}
-use Rattle.std.proofs.lemmas.Bool.{cond-true, cond-false, lt-ltb, eq-eqb, ne_eqb}
+use Rattle.std.proofs.lemmas.Bool.{cond-true, lt-ltb}
 use Rattle.queue.specs.Order.{insert, sorted}
 use Rattle.queue.specs.Shape.{Heap}
 use Rattle.queue.specs.Calls.{pushed, popped, Pushed, Popped}
@@ -60,20 +60,6 @@ module _ (items after : List ℕ) (n x rest : ℕ) (told : Some (x, rest) ≡ po
     shape = (left.0 heap).1;
     same = ap repeated_in (sym (left.0 heap).0);
   }
-
-  pub repeating-more : (last : ℕ) (o : Option ℕ) → (x ≡ last → ⊥) → Repeating items last n o → Repeating after x rest o
-  repeating-more last o u r = record {
-    within = let p = popped-some items n (x, rest) told in omega (arith, p.0, p.1);
-    shape = (left.0 heap).1;
-    same =
-        sym (cond-false (eqb last x) (Some last) (repeated_from x (sorted ltb (take rest after))) (ne_eqb last x (λ e. u (sym e))))
-        ∙ ap (repeated_from last) (sym (left.0 heap).0) ∙ r.same;
-  }
-
-  pub repeating-found : (last : ℕ) (o : Option ℕ) → x ≡ last → Repeating items last n o → Some last ≡ o
-  repeating-found last o e r =
-      sym (cond-true (eqb last x) (Some last) (repeated_from x (sorted ltb (take rest after))) (eq-eqb last x (sym e)))
-      ∙ ap (repeated_from last) (sym (left.0 heap).0) ∙ r.same
 
 pub repeating-none : (items : List ℕ) (last n : ℕ) (o : Option ℕ) → None ≡ popped items n → Repeating items last n o → None ≡ o
 unfolding sorted

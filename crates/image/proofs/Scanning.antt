@@ -1,5 +1,5 @@
 -- One more index of a scan for the first that fails a test.
-use Rattle.std.proofs.Common.{◌≡◌, ℕ, zero, suc, ◌+◌, ◌-◌, ◌<◌, ◌≤◌, Bool, true, false, cond, not, ◌&&◌, eqb, List, [], ◌∷◌, ◌++◌, map, length, get_or, set, is_some, Some, None, Ok, Err, Option, filter, unwrap_or, sym, refl, ap, ◌∙◌, subst, ⊎_elim, add-one, arith}
+use Rattle.std.proofs.Common.{◌≡◌, ℕ, zero, suc, ◌+◌, ◌-◌, ◌<◌, ◌≤◌, Bool, true, false, cond, not, ◌&&◌, eqb, List, [], ◌∷◌, ◌++◌, map, length, get_or, set, is_some, Some, None, Err, Option, filter, unwrap_or, sym, refl, ap, ◌∙◌, subst, ⊎_elim, add-one, arith}
 use Rattle.std.proofs.lemmas.Bool.{cases_eq, cases_lt, cases_Bool, cond-true, cond-false, cond_both, eqb-true, eq-eqb, ne_eqb, le-leb}
 use Rattle.std.proofs.lemmas.Bool.Decides.{nat_tests}
 use Rattle.std.proofs.lemmas.List.Elements.{filter-append}
@@ -74,10 +74,7 @@ module _ (f : ℕ → Bool) where
       (λ (u : i ≡ n → ⊥). later i n (bad-found i n h t (omega (arith, u))))
       (cases_eq i n)
 
-  -- the scan is over, or stops at i
-  pub scan-done : (why : ℕ → Reason) (i n : ℕ) → first_bad f i ≡ None → i ≤ n → n ≤ i → Ok tt ≡ as_result (at_first (first_bad f n) why)
-  scan-done why i n h a b = ap (λ o. as_result (at_first o why)) (sym h ∙ ap (first_bad f) (let e : i ≡ n = omega arith in e))
-
+  -- the scan stops at i
   pub scan-stops : (why : ℕ → Reason) (i n : ℕ) → first_bad f i ≡ None → f i ≡ false → i < n → Err (refusal (why i) i) ≡ as_result (at_first (first_bad f n) why)
   scan-stops why i n h t l = ap (λ o. as_result (at_first o why)) (sym (bad-found i n h t l))
 
@@ -268,15 +265,10 @@ module _ (d : Image) where
       let more = map d.target (filter (is_leaf_entry d) (range_with_len e (m - e))) in
       omega (arith, ap (λ k. length (numbers_below d k)) (let w : e + (m - e) ≡ m = omega arith in w), ap length (numbers-append e (m - e)), length-append (numbers_below d e) more)
 
--- the entry whose box is that of an entry's node, by the two lists
+-- what leads to an entry's node is one of the entries, by the two lists
 module _ (bs os : List ℕ) (ls : List (Option ℕ)) (n m : ℕ) (sized : Sized bs n m) (owned : Owned bs os n m) (led : Led bs ls m) (e : ℕ) (some : 1 ≤ e) (within : e < m) where
   few-nodes : get_or os e 0 < 128
   few-nodes = omega (arith, owned.below e some within, sized.few.0)
-
-  pub leads-owner : unwrap_or (get_or ls (get_or os e 0) None) 0 ≡ leader (image_of bs) (owner (image_of bs) e)
-  leads-owner =
-      ap (λ o. unwrap_or o 0) (led.each (get_or os e 0) few-nodes) ∙ leading-or (leader_below (image_of bs) m (get_or os e 0))
-      ∙ (λ i. leader_below (image_of bs) (sized.entries i) (owned.each e some within i))
 
   pub leads-before : unwrap_or (get_or ls (get_or os e 0) None) 0 < m
   leads-before = omega (arith, ap (λ o. unwrap_or o 0) (led.each (get_or os e 0) few-nodes), leading-or (leader_below (image_of bs) m (get_or os e 0)), leader-before (image_of bs) m (get_or os e 0) sized.some.1)

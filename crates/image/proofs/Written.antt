@@ -1,6 +1,6 @@
 -- The numbers of an image, by the bytes that write them.
 use Rattle.std.proofs.Common.{◌≡◌, ℕ, ◌+◌, ◌-◌, ◌*◌, ◌<◌, ◌≤◌, true, false, ◌&&◌, ◌⊎◌, List, length, get_or, take, drop, ℤ, is_ok, Ok, Err, sym, refl, ap, ◌∙◌, ⊎_elim, arith, w32, SFits, to_z, of_z}
-use Rattle.std.proofs.lemmas.List.{get_or-drop, drop-drop, take_rest, length-drop}
+use Rattle.std.proofs.lemmas.List.{get_or-drop, drop-drop, take_rest}
 use Rattle.std.proofs.lemmas.Bool.Decides.{nat_tests}
 use Rattle.std.proofs.lemmas.Bool.{cases_Bool, cond-true, cond-false}
 use Rattle.std.proofs.lemmas.Int.{to_z-of_z}
@@ -8,8 +8,7 @@ use Rattle.geometry.specs.declared.refusal.Reason.TheVariants.{BadBox}
 use Rattle.geometry.specs.Refusals.{refusal}
 use Rattle.geometry.specs.Plane.{span, rect_from, rect_at}
 use Rattle.image.specs.Checks.{node_fine}
-use Rattle.image.specs.Results.{Sized}
-use Rattle.image.specs.Layout.{two, four, signed, box_start, target_start, image_of}
+use Rattle.image.specs.Layout.{two, image_of}
 
 module _ (bs : List ℕ) where
   pub level-is : (i : ℕ) → get_or bs (4 + 2 * i) 0 ≡ (image_of bs).level i
@@ -28,26 +27,6 @@ module _ (bs : List ℕ) where
   unfolding image_of
   entries-is = refl
 
-  pub west-is : (n e : ℕ) → n ≡ (image_of bs).nodes → signed bs (box_start n e + 0) ≡ (image_of bs).west e
-  unfolding image_of
-  west-is n e h = ap (signed bs) (let w : box_start n e + 0 ≡ box_start n e = omega arith in w) ∙ ap (λ k. signed bs (box_start k e)) h
-
-  pub south-is : (n e : ℕ) → n ≡ (image_of bs).nodes → signed bs (box_start n e + 4) ≡ (image_of bs).south e
-  unfolding image_of
-  south-is n e h = ap (λ k. signed bs (box_start k e + 4)) h
-
-  pub east-is : (n e : ℕ) → n ≡ (image_of bs).nodes → signed bs (box_start n e + 8) ≡ (image_of bs).east e
-  unfolding image_of
-  east-is n e h = ap (λ k. signed bs (box_start k e + 8)) h
-
-  pub north-is : (n e : ℕ) → n ≡ (image_of bs).nodes → signed bs (box_start n e + 12) ≡ (image_of bs).north e
-  unfolding image_of
-  north-is n e h = ap (λ k. signed bs (box_start k e + 12)) h
-
-  pub target_is : (n m e : ℕ) → n ≡ (image_of bs).nodes → m ≡ (image_of bs).entries → four bs (target_start n m e) ≡ (image_of bs).target e
-  unfolding image_of
-  target_is n m e h k = λ i. four bs (target_start (h i) (k i) e)
-
   -- what is left of the bytes at the level of node i
   module _ (left : List ℕ) (i : ℕ) (here : left ≡ drop (4 + 2 * i) bs) where
     level-left : get_or left 0 0 ≡ (image_of bs).level i
@@ -64,9 +43,6 @@ module _ (bs : List ℕ) where
 
     pub node-past : take (length left - 2) (drop 2 left) ≡ drop (4 + 2 * (i + 1)) bs
     node-past = take_rest left 2 ∙ ap (drop 2) here ∙ drop-drop 2 (4 + 2 * i) bs ∙ ap (λ k. drop k bs) (let w : 4 + 2 * i + 2 ≡ 4 + 2 * (i + 1) = omega arith in w)
-
-    pub node-there : (n m : ℕ) → Sized bs n m → i < n → length left < 2 → ⊥
-    node-there n m s l h = omega (arith, ap length here, length-drop (4 + 2 * i) bs, s.whole)
 
 -- numbers make a box when both its sides are spans
 pub box-made : (w s e n : ℤ) → is_ok (rect_from w s e n) ≡ (span w e && span s n)

@@ -7,9 +7,6 @@ use Rattle.std.proofs.lemmas.Bool.{cases_eq, cases_Bool, cond-true, cond-false}
 use Rattle.image.specs.Checks.{first_bad}
 
 module _ (f : ℕ → Bool) where
-  step : Option ℕ → ℕ → Option ℕ
-  step o n = elim o [ Some i ↦ Some i | None ↦ cond (f n) None (Some n) ]
-
   -- none fails below n
   pub none-bad : (n : ℕ) → ((i : ℕ) → i < n → f i ≡ true) → first_bad f n ≡ None
   unfolding first_bad

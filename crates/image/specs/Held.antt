@@ -5,12 +5,11 @@ use Rattle.std.proofs.Math.Logic.{⊎_elim}
 use Rattle.std.specs.List.{range_with_len}
 use Rattle.std.proofs.lemmas.List.FromFn.{get_or-map-range_with_len}
 use Rattle.std.proofs.lemmas.List.{get_or_past}
-use Rattle.std.proofs.lemmas.Bool.{cases_lt, cond-true, cond-false, cond_both, both_ways}
+use Rattle.std.proofs.lemmas.Bool.{cases_lt, cond-true, cond-false, both_ways}
 use Rattle.std.proofs.lemmas.Bool.Decides.{nat_tests}
 use Rattle.geometry.specs.Plane.{in_range, numbered, span, label_from, rect_from}
-use Rattle.geometry.proofs.Boxes.{and_both, and-made, spanned, in-range}
+use Rattle.geometry.proofs.Boxes.{and-made, spanned, in-range}
 use Rattle.index.specs.declared.slot.Slot.TheVariants.{Empty, Holds, Leads}
-use Rattle.index.specs.Opening.{opens_among, node_among}
 use Rattle.index.specs.Laws.{Lawful, Inside}
 use Rattle.image.specs.Layout.{Image, image_of}
 use Rattle.image.specs.Nodes.{is_leaf, start, owner, is_leaf_entry, box_of, label_of, slot_of, node_of, table_of}
@@ -98,12 +97,6 @@ module _ (d : Image) (p : Passed d) where
       let e = start d i + j in
       let inner : is_leaf d i ≡ false = grind (arith, nat_tests) in
       ap (branch_slot (d.target e)) (box-made e (entry_in i j h k).0) ∙ sym (cond-false (is_leaf d i) (Holds (label_of d e)) (Leads (box_of d e) (d.target e)) inner) ∙ sym (slot-entry d i j (count_small i h) k)
-
--- the node open after an opening is one of the image's
-pub opens-within : (d : Image) (n i m : ℕ) (o : Option ℕ) → n ≡ d.nodes → has_open d o ≡ true → has_open d (node_among n i m o) ≡ true
-opens-within d n i m o q h =
-    let P : Option ℕ → Type 0 = λ p. has_open d p ≡ true in
-    cond_both {A = Option ℕ} (opens_among n i m) (Some i) o P (λ t. let both = and_both (nat_lt i n) (nat_lt m 2000000) t in ap (nat_lt i) (sym q) ∙ both.0) (λ _. h)
 
 pub opens-told : (d : Image) (i : ℕ) → has_open d (Some i) ≡ true → i < d.nodes
 opens-told d i h = grind (arith, nat_tests)

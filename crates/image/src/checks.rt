@@ -5,17 +5,15 @@ ghost use Rattle.image.specs.Nodes.{start, label_numbers};
 ghost use Rattle.image.specs.Checks.{first_of, verdict};
 ghost use Rattle.image.specs.Results.{as_result, in_size, header_verdict, lead_checks, tree_checks, entry_checks, node_checks};
 
-use crate::nodes::{Entries, MOST_NODES};
-use crate::reading::Reader;
+use crate::nodes::Entries;
+use crate::reading::{MOST_ENTRIES, MOST_NODES, Reader};
 use crate::targets::Leads;
 use geometry::{Reason, Refusal};
-
-const MOST_ENTRIES: usize = 1537;
 
 fn is_in_size(n: usize, m: usize) -> bool
     ensures { result ≡ in_size n m }
 {
-    1 <= n && n <= MOST_NODES && 1 <= m && m <= MOST_ENTRIES
+    (1..=MOST_NODES).contains(&n) && (1..=MOST_ENTRIES).contains(&m)
 }
 
 // How many nodes and entries there are, by the first four bytes; the others are as many as that asks for.
@@ -28,8 +26,8 @@ pub(crate) fn read_sizes(bytes: &[u8]) -> Result<Reader<'_>, Refusal>
             place: bytes.len(),
         });
     };
-    let nodes = *n1 as usize * 256 + *n0 as usize;
-    let entries = *m1 as usize * 256 + *m0 as usize;
+    let nodes = usize::from(u16::from_be_bytes([*n1, *n0]));
+    let entries = usize::from(u16::from_be_bytes([*m1, *m0]));
     if !is_in_size(nodes, entries) {
         return Err(Refusal {
             reason: Reason::BadSize,

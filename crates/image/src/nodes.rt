@@ -7,12 +7,13 @@ ghost use Rattle.image.specs.Nodes.{start, is_leaf_entry};
 ghost use Rattle.image.specs.Checks.{first_bad, at_first, unless, node_fine};
 ghost use Rattle.image.specs.Results.{as_result, Owned};
 
-use crate::reading::Reader;
+use crate::reading::{MOST_NODES, Reader};
 use crate::refusing::refuse_unless;
 use geometry::{Reason, Refusal};
+use index::SLOTS;
 
-// An image has no more nodes.
-pub(crate) const MOST_NODES: usize = 128;
+// The highest level of a node.
+const TOP_LEVEL: u8 = 7;
 
 // An image, and the node of each of its entries.
 #[derive(Clone, Copy)]
@@ -44,7 +45,7 @@ impl<'a> Reader<'a> {
             let [level, count, rest @ ..] = left else {
                 return Ok(());
             };
-            if *level > 7 || *count > 12 {
+            if *level > TOP_LEVEL || *count as usize > SLOTS {
                 return Err(Refusal {
                     reason: Reason::BadSize,
                     place: i,

@@ -6,6 +6,11 @@ ghost use Rattle.image.specs.Results.{Sized};
 
 use geometry::{Rect, Refusal};
 
+// An image has no more nodes, and no more entries.
+pub(crate) const MOST_NODES: usize = 128;
+
+pub(crate) const MOST_ENTRIES: usize = 1537;
+
 // The bytes of an image, which say how many nodes and entries there are and are as long as that asks for.
 #[derive(Clone, Copy)]
 pub(crate) struct Reader<'a> {

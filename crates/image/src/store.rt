@@ -4,7 +4,7 @@ ghost use Rattle.image.specs.Nodes.{start};
 ghost use Rattle.image.specs.Checks.{verdict};
 ghost use Rattle.image.specs.Opened.{has_open};
 
-use crate::nodes::MOST_NODES;
+use crate::reading::MOST_NODES;
 use index::Openings;
 
 pub mod nodes;

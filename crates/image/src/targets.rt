@@ -7,9 +7,13 @@ ghost use Rattle.image.specs.Layout.{image_of};
 ghost use Rattle.image.specs.Checks.{first_bad, at_first, unless, target_fine, target_reason, led_to};
 ghost use Rattle.image.specs.Results.{as_result, Led, leads_down};
 
-use crate::nodes::{Entries, MOST_NODES};
+use crate::nodes::Entries;
+use crate::reading::MOST_NODES;
 use crate::refusing::refuse_unless;
 use geometry::{Reason, Refusal};
+
+// The greatest number of a label.
+const LAST_NUMBER: u32 = 999_999_999;
 
 // The entries of an image, and which of them leads to each node.
 #[derive(Drop)]
@@ -43,7 +47,7 @@ impl<'a> Entries<'a> {
             return to == 0;
         }
         if self.is_leaf_entry(e) {
-            return 1 <= to && to <= 999_999_999;
+            return (1..=LAST_NUMBER).contains(&to);
         }
         self.leads_down(e) && leaders[to as usize].is_none()
     }

@@ -9,14 +9,13 @@ ghost use Rattle.image.specs.Store.{held_table, empty_table, Fresh, HasEntries};
 
 use super::ImageStore;
 use crate::checks::{check, read_sizes};
-use crate::nodes::MOST_NODES;
-use crate::reading::Reader;
+use crate::reading::{MOST_ENTRIES, MOST_NODES, Reader};
 use geometry::Refusal;
 use index::Openings;
 use std::alloc::{AllocError, Global};
 
-// The longest image: 128 nodes and 1,537 entries.
-const LONGEST: usize = 31_000;
+// How long the longest image is.
+const LONGEST: usize = 4 + 2 * MOST_NODES + 20 * MOST_ENTRIES;
 
 // The image of one empty leaf, whose box is the single place (0, 0).
 const EMPTY: [u8; 26] = [
