@@ -30,17 +30,13 @@ none_first (None ∷ cs) ds h = none_first cs ds h
 none_first (Some q ∷ cs) ds h = let z : ◌≡◌ {A = ℕ} 0 1 = cc in absurd (omega arith)
 
 -- a check by what it tells
-pub told-passes : (o : Option Refusal) (u : Unit {0}) (cs : List (Option Refusal)) → Ok u ≡ as_result o → first_of (o ∷ cs) ≡ first_of cs
-told-passes None u cs h = refl
-told-passes (Some r) u cs h = let z : ◌≡◌ {A = ℕ} 0 1 = cc in absurd (omega arith)
+pub told-none : (o : Option Refusal) (u : Unit {0}) → Ok u ≡ as_result o → o ≡ None
+told-none None u h = refl
+told-none (Some r) u h = let z : ◌≡◌ {A = ℕ} 0 1 = cc in absurd (omega arith)
 
-pub told-fails : (o : Option Refusal) (r : Refusal) (cs : List (Option Refusal)) → Err r ≡ as_result o → first_of (o ∷ cs) ≡ Some r
-told-fails None r cs h = let z : ◌≡◌ {A = ℕ} 0 1 = cc in absurd (omega arith)
-told-fails (Some q) r cs h = let e : q ≡ r = cc in ap (λ x. Some x) e
-
-pub told-true : (b : Bool) (r : Refusal) (u : Unit {0}) → Ok u ≡ as_result (unless b r) → b ≡ true
-told-true true r u h = refl
-told-true false r u h = let z : ◌≡◌ {A = ℕ} 0 1 = cc in absurd (omega arith)
+pub told-some : (o : Option Refusal) (r : Refusal) → Err r ≡ as_result o → o ≡ Some r
+told-some None r h = let z : ◌≡◌ {A = ℕ} 0 1 = cc in absurd (omega arith)
+told-some (Some q) r h = let e : q ≡ r = cc in ap (λ x. Some x) e
 
 -- how long the bytes after the header are
 pub rest-length : (bs : List ℕ) → length (take (length bs - 4) (drop 4 bs)) ≡ length bs - 4

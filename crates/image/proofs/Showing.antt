@@ -27,10 +27,6 @@ accepted-roomy bs room h =
     let p = (accepted (image_of bs) (length bs) room h).passed in
     obeys-accepted bs 1537 (omega (arith, numbers-few (image_of bs), p.entries.1)) (accepted-obeys bs room h)
 
-pub ok-none : (o : Option Refusal) → is_ok (as_result o) ≡ true → o ≡ None
-ok-none None h = refl
-ok-none (Some r) h = absurd (both_ways false refl h)
-
 pub has-entries : (bs : List ℕ) (room : ℕ) → verdict bs room ≡ None → HasEntries (image_of bs) (table_of (image_of bs))
 unfolding table_of
 has-entries bs room h =

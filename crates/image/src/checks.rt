@@ -17,7 +17,7 @@ fn is_in_size(n: usize, m: usize) -> bool
 }
 
 // How many nodes and entries there are, by the first four bytes; the others are as many as that asks for.
-pub(crate) fn read_sizes(bytes: &[u8]) -> Result<Reader<'_>, Refusal>
+fn read_sizes(bytes: &[u8]) -> Result<Reader<'_>, Refusal>
     ensures { MatchResult result (λ r. (header_verdict bytes.now ≡ None) × (r.bytes.now ≡ bytes.now)) (λ e. header_verdict bytes.now ≡ Some e) }
 {
     let [n1, n0, m1, m0, rest @ ..] = bytes else {
@@ -98,9 +98,11 @@ impl Reader<'_> {
     }
 }
 
-// Whether the bytes are a lawful image, or else why not. The list of numbers is for work.
-pub(crate) fn check(bytes: &[u8], numbers: &mut [u32]) -> Result<(), Refusal>
-    ensures { result ≡ as_result (verdict bytes.now (length numbers.old)) }
+// What reads the bytes, if they are a lawful image, or else why they are none. The list of numbers is for work.
+pub(crate) fn check<'a>(bytes: &'a [u8], numbers: &mut [u32]) -> Result<Reader<'a>, Refusal>
+    ensures { MatchResult result (λ r. (verdict bytes.now (length numbers.old) ≡ None) × (r.bytes.now ≡ bytes.now)) (λ e. verdict bytes.now (length numbers.old) ≡ Some e) }
 {
-    read_sizes(bytes)?.check(numbers)
+    let reader = read_sizes(bytes)?;
+    reader.check(numbers)?;
+    Ok(reader)
 }

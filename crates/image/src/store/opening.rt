@@ -8,7 +8,7 @@ ghost use Rattle.image.specs.Results.{as_result};
 ghost use Rattle.image.specs.Store.{held_table, empty_table, Fresh, HasEntries};
 
 use super::ImageStore;
-use crate::checks::{check, read_sizes};
+use crate::checks::check;
 use crate::reading::{MOST_ENTRIES, MOST_NODES, Reader};
 use geometry::Refusal;
 use index::Openings;
@@ -56,8 +56,7 @@ impl ImageStore {
         ensures exactly { length (label_numbers (image_of bytes.now)) ≤ length numbers.old → (is_ok result ≡ true → Obeys bytes.now) × (Obeys bytes.now → is_ok result ≡ true) }
         ensures lawful { is_ok result ≡ true → Lawful (held_table self.new) × HasEntries (image_of bytes.now) (held_table self.new) }
     {
-        check(bytes, numbers)?;
-        let reader = read_sizes(bytes)?;
+        let reader = check(bytes, numbers)?;
         refill(&mut self.bytes, bytes);
         self.nodes = reader.nodes;
         self.entries = reader.entries;

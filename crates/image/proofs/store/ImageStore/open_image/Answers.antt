@@ -11,22 +11,22 @@ use Rattle.image.specs.Store.{HasEntries}
 use Rattle.image.proofs.Chaining.{verdict-header}
 use Rattle.image.specs.Exactly.{accepted, accepted-obeys, obeys-accepted}
 use Rattle.image.specs.Lawfulness.{lawful-table}
-use Rattle.image.proofs.Showing.{accepted-roomy, ok-none, has-entries}
+use Rattle.image.proofs.Showing.{accepted-roomy, has-entries}
 use Rattle.image.proofs.store.ImageStore.open_image.Goals as goal
 
-pub returns-in_err-check-clause-exactly : goal.returns-in_err-check-clause-exactly
-returns-in_err-check-clause-exactly c fits =
+pub returns-in_err-reader-clause-exactly : goal.returns-in_err-reader-clause-exactly
+returns-in_err-reader-clause-exactly c fits =
     let bs = c.args.bytes.now in
     let room = length c.args.numbers.now in
     let p = err_from_is_err_and c.from_residual.result c.from_residual.ensures.1 in
-    let told : c.from_residual.result ≡ as_result (verdict bs room) = p.1 ∙ ap (λ e. Err e) p.2 ∙ c.in_err-check.ensures in
+    let told : c.from_residual.result ≡ as_result (verdict bs room) = p.1 ∙ ap (λ e. Err e) p.2 ∙ ap as_result (sym c.in_err-reader.ensures) in
     (λ h. absurd (both_ways (is_ok c.from_residual.result) (ap is_ok p.1) h), λ o. ap is_ok told ∙ ap (λ v. is_ok (as_result v)) (obeys-accepted bs room fits o))
 
 pub invariant_of-self : goal.invariant_of-self
 invariant_of-self c =
     let bs = c.args.bytes.now in
     let room = length c.args.numbers.now in
-    let none = ok-none (verdict bs room) (ap is_ok (sym c.in_ok-check.ensures)) in
+    let none = c.in_ok-reader.ensures.0 in
     let r = c.in_ok-reader.reader in
     let read = c.in_ok-reader.ensures.1 ∙ sym c.refill.ensures.items in
     let same = sym c.refill.ensures.items in
@@ -42,22 +42,14 @@ pub returns-clause-exactly : goal.returns-clause-exactly
 returns-clause-exactly c fits =
     let bs = c.args.bytes.now in
     let room = length c.args.numbers.now in
-    (λ _. accepted-obeys bs room (ok-none (verdict bs room) (ap is_ok (sym c.in_ok-check.ensures))), λ _. refl)
+    (λ _. accepted-obeys bs room c.in_ok-reader.ensures.0, λ _. refl)
 
 pub returns-clause-lawful : goal.returns-clause-lawful
 returns-clause-lawful c h =
     let bs = c.args.bytes.now in
     let room = length c.args.numbers.now in
-    let none = ok-none (verdict bs room) (ap is_ok (sym c.in_ok-check.ensures)) in
+    let none = c.in_ok-reader.ensures.0 in
     let same = sym c.refill.ensures.items in (
       subst (λ l. Lawful (table_of (image_of l))) same (lawful-table (image_of bs) (accepted (image_of bs) (length bs) room none).passed),
       subst (λ l. HasEntries (image_of bs) (table_of (image_of l))) same (has-entries bs room none),
     )
-
-pub returns-in_err-reader-clause-told : goal.returns-in_err-reader-clause-told
-returns-in_err-reader-clause-told c =
-    let bs = c.args.bytes.now in
-    let room = length c.args.numbers.now in
-    let none = ok-none (verdict bs room) (ap is_ok (sym c.in_ok-check.ensures)) in
-    let header = sym none ∙ verdict-header bs room c.in_err-reader.field-0.0 c.in_err-reader.ensures in
-    let z : ◌≡◌ {A = ℕ} 0 1 = cc in absurd (omega arith)
