@@ -105,20 +105,20 @@ module _ (d : Image) where
   pub start-next : (i : ℕ) → start d i + d.count i ≡ start d (i + 1)
   start-next i = sym (ap (start d) (add-one i) ∙ start-more d i)
 
-  pub owners-more : (os ps : List ℕ) (n i at c : ℕ) → n ≡ d.nodes → i < n → at ≡ start d i → c ≡ d.count i
-      → ((e : ℕ) → 1 ≤ e → e < at → get_or os e 0 ≡ owner d e) → ((k : ℕ) → k < at → get_or ps k 0 ≡ get_or os k 0) → ((k : ℕ) → at ≤ k → k < at + c → get_or ps k 0 ≡ i)
-      → (e : ℕ) → 1 ≤ e → e < at + c → get_or ps e 0 ≡ owner d e
-  owners-more os ps n i at c n' l a c' old before within e h b = ⊎_elim
-      (λ (low : e < at). before e low ∙ old e h low)
-      (λ (high : at ≤ e). within e high b ∙ sym (owner-is d d.nodes i e (omega arith) (omega arith) (omega (arith, start-more d i))))
+  pub owners-more : (os ps : List ℕ) (n i at end : ℕ) → n ≡ d.nodes → i < n → at ≡ start d i → end ≡ start d (i + 1)
+      → ((e : ℕ) → 1 ≤ e → e < start d i → get_or os e 0 ≡ owner d e) → ((k : ℕ) → k < at → get_or ps k 0 ≡ get_or os k 0) → ((k : ℕ) → at ≤ k → k < end → get_or ps k 0 ≡ i)
+      → (e : ℕ) → 1 ≤ e → e < start d (i + 1) → get_or ps e 0 ≡ owner d e
+  owners-more os ps n i at end n' l a z old before within e h b = ⊎_elim
+      (λ (low : e < at). before e low ∙ old e h (omega arith))
+      (λ (high : at ≤ e). within e high (omega arith) ∙ sym (owner-is d d.nodes i e (omega arith) (omega arith) (omega (arith, start-next i, start-more d i))))
       (cases_lt e at)
 
   -- one more start
-  pub starts-more : (ss : List ℕ) (i first : ℕ) → i < length ss → first ≡ start d i → ((k : ℕ) → k < i → get_or ss k 0 ≡ start d k) → (k : ℕ) → k < i + 1 → get_or (set ss i first) k 0 ≡ start d k
-  starts-more ss i first l h old k b = ⊎_elim
-      (λ (e : k ≡ i). ap (λ j. get_or (set ss i first) j 0) e ∙ get_or-set_same ss i first 0 l ∙ h ∙ ap (start d) (sym e))
-      (λ (u : k ≡ i → ⊥). get_or-set_other ss i k first 0 u ∙ old k (omega (arith, u)))
-      (cases_eq k i)
+  pub starts-more : (ss : List ℕ) (i next : ℕ) → i + 1 < length ss → next ≡ start d (i + 1) → ((k : ℕ) → k ≤ i → get_or ss k 0 ≡ start d k) → (k : ℕ) → k ≤ i + 1 → get_or (set ss (i + 1) next) k 0 ≡ start d k
+  starts-more ss i next l h old k b = ⊎_elim
+      (λ (e : k ≡ i + 1). ap (λ j. get_or (set ss (i + 1) next) j 0) e ∙ get_or-set_same ss (i + 1) next 0 l ∙ h ∙ ap (start d) (sym e))
+      (λ (u : k ≡ i + 1 → ⊥). get_or-set_other ss (i + 1) k next 0 u ∙ old k (omega (arith, u)))
+      (cases_eq k (i + 1))
 
   -- every node starts before the end
   pub start-within : (i n m : ℕ) → i < n → start d n ≡ m → start d i + d.count i ≤ m

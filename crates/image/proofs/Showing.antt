@@ -1,17 +1,14 @@
 -- What opening an image leaves.
-use Rattle.std.proofs.Common.{◌≡◌, ℕ, ◌≤◌, true, false, not, List, ◌∷◌, length, get_or, replicate, is_some, is_ok, Some, None, filter, Option, refl, ap, ◌∙◌, arith}
+use Rattle.std.proofs.Common.{◌≡◌, ℕ, ◌≤◌, false, not, List, ◌∷◌, length, get_or, replicate, is_some, None, filter, refl, ap, ◌∙◌, arith}
 use lib.ListN.{length-map}
 use Rattle.std.specs.List.{range_with_len}
 use Rattle.std.proofs.lemmas.List.FromFn.{length-range_with_len}
 use Rattle.std.proofs.lemmas.List.Filters.{length-filter_both}
-use Rattle.std.proofs.lemmas.Bool.{both_ways}
-use Rattle.geometry.specs.declared.refusal.Refusal.{Refusal}
 use Rattle.index.specs.declared.slot.Slot.TheVariants.{Empty}
 use Rattle.image.specs.Layout.{Image, image_of}
 use Rattle.queue.specs.Order.{sorted}
 use Rattle.image.specs.Nodes.{is_leaf_entry, start, owner_below, leader_below, node_of, table_of, label_numbers}
 use Rattle.image.specs.Checks.{first_bad, checks, verdict}
-use Rattle.image.specs.Results.{as_result}
 use Rattle.image.specs.Store.{empty_table, HasEntries}
 use Rattle.image.specs.Lawfulness.{node-count, node_at-table_of}
 use Rattle.image.specs.Exactly.{accepted, accepted-obeys, obeys-accepted}

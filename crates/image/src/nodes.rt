@@ -7,7 +7,7 @@ ghost use Rattle.image.specs.Nodes.{start, is_leaf_entry};
 ghost use Rattle.image.specs.Checks.{first_bad, at_first, unless, node_fine};
 ghost use Rattle.image.specs.Results.{as_result, Owned};
 
-use crate::reading::{MOST_NODES, Reader};
+use crate::reading::{Reader, STARTS};
 use crate::refusing::refuse_unless;
 use geometry::{Reason, Refusal};
 use index::SLOTS;
@@ -56,26 +56,13 @@ impl<'a> Reader<'a> {
         Ok(())
     }
 
-    // The entry after those of all nodes.
-    fn end(self) -> usize
-        ensures { result ≡ start (image_of self.entry.bytes.now) self.entry.nodes }
+    // The entry in slot 0 of each node, and the entry after those of all nodes.
+    pub(crate) fn starts(self) -> [usize; STARTS]
+        ensures { (i : ℕ) → i ≤ self.entry.nodes → slice_index result i ≡ start (image_of self.entry.bytes.now) i }
     {
-        let mut end = 1;
+        let mut starts = [1; STARTS];
         for i in 0..self.nodes {
-            end += self.count(i) as usize;
-        }
-        end
-    }
-
-    // The entry in slot 0 of each node.
-    pub(crate) fn starts(self) -> [usize; MOST_NODES]
-        ensures { (i : ℕ) → i < self.entry.nodes → slice_index result i ≡ start (image_of self.entry.bytes.now) i }
-    {
-        let mut starts = [0; MOST_NODES];
-        let mut first = 1;
-        for i in 0..self.nodes {
-            starts[i] = first;
-            first += self.count(i) as usize;
+            starts[i + 1] = starts[i] + self.count(i) as usize;
         }
         starts
     }
@@ -84,7 +71,12 @@ impl<'a> Reader<'a> {
     pub(crate) fn check_sum(self) -> Result<(), Refusal>
         ensures { result ≡ as_result (unless (start (image_of self.entry.bytes.now) self.entry.nodes == self.entry.entries) (refusal BadSize self.entry.nodes)) }
     {
-        refuse_unless(self.end() == self.entries, Reason::BadSize, self.nodes)
+        let starts = self.starts();
+        refuse_unless(
+            starts[self.nodes] == self.entries,
+            Reason::BadSize,
+            self.nodes,
+        )
     }
 
     // Finds the node of each entry.
@@ -93,11 +85,9 @@ impl<'a> Reader<'a> {
         requires room { self.entries ≤ length owners.old }
         ensures { result.reader ≡ self.entry }
     {
-        let mut at = 1;
+        let starts = self.starts();
         for i in 0..self.nodes {
-            let end = at + self.count(i) as usize;
-            write_all(owners, at, end, i);
-            at = end;
+            write_all(owners, starts[i], starts[i + 1], i);
         }
         Entries {
             reader: self,

@@ -11,6 +11,9 @@ pub(crate) const MOST_NODES: usize = 128;
 
 pub(crate) const MOST_ENTRIES: usize = 1537;
 
+// A start for each node, and the end of the last.
+pub(crate) const STARTS: usize = MOST_NODES + 1;
+
 // The bytes of an image, which say how many nodes and entries there are and are as long as that asks for.
 #[derive(Clone, Copy)]
 pub(crate) struct Reader<'a> {

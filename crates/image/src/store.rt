@@ -4,7 +4,7 @@ ghost use Rattle.image.specs.Nodes.{start};
 ghost use Rattle.image.specs.Checks.{verdict};
 ghost use Rattle.image.specs.Opened.{has_open};
 
-use crate::reading::MOST_NODES;
+use crate::reading::STARTS;
 use index::Openings;
 
 pub mod nodes;
@@ -16,7 +16,7 @@ pub struct ImageStore {
     bytes: Vec<u8>,
     nodes: usize,
     entries: usize,
-    starts: [usize; MOST_NODES],
+    starts: [usize; STARTS],
     openings: Openings,
     ghost roomy: { 31000 ≤ vec_capacity bytes },
     ghost fine: { is_some (verdict bytes.items 1537) ≡ false },

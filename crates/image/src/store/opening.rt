@@ -9,7 +9,7 @@ ghost use Rattle.image.specs.Store.{held_table, empty_table, Fresh, HasEntries};
 
 use super::ImageStore;
 use crate::checks::check;
-use crate::reading::{MOST_ENTRIES, MOST_NODES, Reader};
+use crate::reading::{MOST_ENTRIES, MOST_NODES, Reader, STARTS};
 use geometry::Refusal;
 use index::Openings;
 use std::alloc::{AllocError, Global};
@@ -43,7 +43,7 @@ impl ImageStore {
             bytes,
             nodes: 1,
             entries: 1,
-            starts: [1; MOST_NODES],
+            starts: [1; STARTS],
             openings: Openings::new(),
         })
     }

@@ -15,7 +15,7 @@ invariant_of-result c =
       roomy = omega (arith, c.refill.ensures.room, c.in_ok-bytes.ensures.capacity);
       fine = subst (λ bs. is_some (verdict bs 1537) ≡ false) same empty-fine;
       sized = (empty-sized.0 ∙ ap (λ bs. (image_of bs).nodes) same, empty-sized.1 ∙ ap (λ bs. (image_of bs).entries) same);
-      placed = λ i h. get_or-replicate {A = ℕ} 128 i 1 0 (omega (arith, h)) ∙ sym (start-zero (image_of c.refill.new.list.items)) ∙ ap (start (image_of c.refill.new.list.items)) (let e : 0 ≡ i = omega (arith, h) in e);
+      placed = λ i h. get_or-replicate {A = ℕ} 129 i 1 0 (omega (arith, h)) ∙ sym (start-zero (image_of c.refill.new.list.items)) ∙ ap (start (image_of c.refill.new.list.items)) (let e : 0 ≡ i = omega (arith, h) in e);
       within = ap (has_open (image_of c.refill.new.list.items)) c.new.ensures.node;
     }
 

@@ -1,4 +1,4 @@
-use Rattle.std.proofs.Common.{◌≡◌, ℕ, false, length, is_some, is_ok, Err, sym, refl, ap, ◌∙◌, subst, arith}
+use Rattle.std.proofs.Common.{◌≡◌, false, length, is_some, is_ok, Err, sym, refl, ap, ◌∙◌, subst, arith}
 use Rattle.std.proofs.lemmas.Result.{err_from_is_err_and}
 use Rattle.std.proofs.lemmas.Bool.{both_ways}
 use Rattle.index.specs.Laws.{Lawful}
@@ -8,7 +8,6 @@ use Rattle.image.specs.Checks.{verdict}
 use Rattle.image.specs.Opened.{has_open}
 use Rattle.image.specs.Results.{as_result}
 use Rattle.image.specs.Store.{HasEntries}
-use Rattle.image.proofs.Chaining.{verdict-header}
 use Rattle.image.specs.Exactly.{accepted, accepted-obeys, obeys-accepted}
 use Rattle.image.specs.Lawfulness.{lawful-table}
 use Rattle.image.proofs.Showing.{accepted-roomy, has-entries}
@@ -34,7 +33,7 @@ invariant_of-self c =
       roomy = omega (arith, c.refill.ensures.room, c.args.self.now.roomy);
       fine = subst (λ l. is_some (verdict l 1537) ≡ false) same (ap is_some (accepted-roomy bs room none));
       sized = (r.sized.nodes ∙ ap (λ l. (image_of l).nodes) read, r.sized.entries ∙ ap (λ l. (image_of l).entries) read);
-      placed = λ i h. c.starts-self.ensures i h ∙ ap (λ l. start (image_of l) i) read;
+      placed = λ i h. c.starts-self.ensures i (omega (arith, h)) ∙ ap (λ l. start (image_of l) i) read;
       within = ap (has_open (image_of c.refill.new.list.items)) c.new-self.ensures.node;
     }
 
