@@ -3,3 +3,4 @@ pub mod Scanning
 pub mod Queueing
 pub mod Chaining
 pub mod Showing
+pub mod Slotting
