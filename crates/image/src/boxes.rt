@@ -13,6 +13,13 @@ use crate::refusing::refuse_at;
 use crate::targets::Leads;
 use geometry::{Reason, Refusal};
 
+// Whether the numbers from `low` to `high` hold those from `first` to `last`.
+fn is_spanning(low: i32, high: i32, first: i32, last: i32) -> bool
+    ensures { result ≡ spanning low high first last }
+{
+    low <= first && last <= high
+}
+
 impl Reader<'_> {
     // Whether the box of entry `e` is upright and on the map.
     fn is_box(self, e: usize) -> bool
@@ -30,28 +37,13 @@ impl Reader<'_> {
         self.east(e) <= self.west(e) && self.north(e) <= self.south(e)
     }
 
-    // Whether the box of entry `e` lies between the west and east of that of entry `b`.
-    fn is_across(self, b: usize, e: usize) -> bool
-        requires { (b < self.entries) × (e < self.entries) }
-        ensures { result ≡ spanning ((image_of self.entry.bytes.now).west b) ((image_of self.entry.bytes.now).east b) ((image_of self.entry.bytes.now).west e) ((image_of self.entry.bytes.now).east e) }
-    {
-        self.west(b) <= self.west(e) && self.east(e) <= self.east(b)
-    }
-
-    // Whether it lies between the south and north.
-    fn is_along(self, b: usize, e: usize) -> bool
-        requires { (b < self.entries) × (e < self.entries) }
-        ensures { result ≡ spanning ((image_of self.entry.bytes.now).south b) ((image_of self.entry.bytes.now).north b) ((image_of self.entry.bytes.now).south e) ((image_of self.entry.bytes.now).north e) }
-    {
-        self.south(b) <= self.south(e) && self.north(e) <= self.north(b)
-    }
-
     // Whether the box of entry `e` lies in that of entry `b`.
     fn is_inside(self, b: usize, e: usize) -> bool
         requires { (b < self.entries) × (e < self.entries) }
         ensures { result ≡ inside_of (image_of self.entry.bytes.now) b e }
     {
-        self.is_across(b, e) && self.is_along(b, e)
+        is_spanning(self.west(b), self.east(b), self.west(e), self.east(e))
+            && is_spanning(self.south(b), self.north(b), self.south(e), self.north(e))
     }
 }
 
