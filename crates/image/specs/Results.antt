@@ -64,7 +64,7 @@ inside_of d b e = spanning (d.west b) (d.east b) (d.west e) (d.east e) && spanni
 abbrev pub in_size : ℕ → ℕ → Bool
 in_size n m = nat_le 1 n && nat_le n 128 && nat_le 1 m && nat_le m 1537
 
--- the checks of the header, and those from some point on: of what leads to a node, of the tree, of the entries, of the nodes, with N and M by themselves
+-- the checks of the header, of what leads to a node, of the branches, and those of the tree, the entries and the nodes and all after them, with N and M by themselves
 abbrev pub header_verdict : List ℕ → Option Refusal
 header_verdict bs = first_of (
     unless (nat_le 4 (length bs)) (refusal BadLength (length bs))
@@ -76,11 +76,18 @@ abbrev pub lead_checks : Image → ℕ → ℕ → List (Option Refusal)
 lead_checks d n m =
     unless (not (is_some (first_bad (led_to d) n))) (refusal BadTarget m)
     ∷ at_first (first_bad (inside_fine d) m) (λ _. OutsideBox)
-    ∷ option_map (refusal BadNumber) (smallest_repeated (label_numbers d))
     ∷ []
 
+abbrev pub branch_checks : Image → ℕ → ℕ → List (Option Refusal)
+branch_checks d n m = at_first (first_bad (target_fine d) m) (target_reason d) ∷ lead_checks d n m
+
 abbrev pub tree_checks : Image → ℕ → ℕ → List (Option Refusal)
-tree_checks d n m = at_first (first_bad (target_fine d) m) (target_reason d) ∷ lead_checks d n m
+tree_checks d n m =
+    at_first (first_bad (target_fine d) m) (target_reason d)
+    ∷ unless (not (is_some (first_bad (led_to d) n))) (refusal BadTarget m)
+    ∷ at_first (first_bad (inside_fine d) m) (λ _. OutsideBox)
+    ∷ option_map (refusal BadNumber) (smallest_repeated (label_numbers d))
+    ∷ []
 
 abbrev pub entry_checks : Image → ℕ → ℕ → ℕ → List (Option Refusal)
 entry_checks d n m room =

@@ -1,9 +1,9 @@
 // The checks of an image, in their order.
-ghost use Rattle.std.specs.Prelude.{◌≡◌, ◌≤◌, length, Some, None, MatchResult};
+ghost use Rattle.std.specs.Prelude.{◌≡◌, length, Some, None, MatchResult};
 ghost use Rattle.image.specs.Layout.{image_of};
-ghost use Rattle.image.specs.Nodes.{start, label_numbers};
+ghost use Rattle.image.specs.Nodes.{start};
 ghost use Rattle.image.specs.Checks.{first_of, verdict};
-ghost use Rattle.image.specs.Results.{as_result, in_size, header_verdict, lead_checks, tree_checks, entry_checks, node_checks};
+ghost use Rattle.image.specs.Results.{as_result, in_size, header_verdict, lead_checks, branch_checks, entry_checks, node_checks};
 
 use crate::nodes::Entries;
 use crate::reading::{MOST_ENTRIES, MOST_NODES, Reader};
@@ -48,24 +48,21 @@ fn read_sizes(bytes: &[u8]) -> Result<Reader<'_>, Refusal>
 }
 
 impl Leads<'_> {
-    // The checks of what is led to, and of what the entries hold.
-    fn check(&self, numbers: &mut [u32]) -> Result<(), Refusal>
-        requires { length (label_numbers (image_of self.now.entries.reader.bytes.now)) ≤ length numbers.old }
+    // The checks of what is led to.
+    fn check(&self) -> Result<(), Refusal>
         ensures { result ≡ as_result (first_of (lead_checks (image_of self.entry.now.entries.reader.bytes.now) self.entry.now.entries.reader.nodes self.entry.now.entries.reader.entries)) }
     {
         self.check_led()?;
-        self.check_inside()?;
-        self.entries.check_numbers(numbers)
+        self.check_inside()
     }
 }
 
 impl Entries<'_> {
-    // The checks of what the entries lead to and hold.
-    fn check_tree(self, numbers: &mut [u32]) -> Result<(), Refusal>
-        requires { length (label_numbers (image_of self.reader.bytes.now)) ≤ length numbers.old }
-        ensures { result ≡ as_result (first_of (tree_checks (image_of self.entry.reader.bytes.now) self.entry.reader.nodes self.entry.reader.entries)) }
+    // The checks of the branches.
+    fn check_branches(self) -> Result<(), Refusal>
+        ensures { result ≡ as_result (first_of (branch_checks (image_of self.entry.reader.bytes.now) self.entry.reader.nodes self.entry.reader.entries)) }
     {
-        self.check_targets()?.check(numbers)
+        self.check_targets()?.check()
     }
 
     // The checks of the entries.
@@ -74,7 +71,8 @@ impl Entries<'_> {
     {
         self.check_room(numbers.len())?;
         self.check_boxes()?;
-        self.check_tree(numbers)
+        self.check_branches()?;
+        self.check_numbers(numbers)
     }
 }
 

@@ -9,7 +9,7 @@ ghost use Rattle.geometry.specs.Refusals.{refusal};
 ghost use Rattle.image.specs.Layout.{image_of};
 ghost use Rattle.image.specs.Nodes.{is_leaf_entry, label_numbers};
 ghost use Rattle.image.specs.Checks.{unless, repeated_in, smallest_repeated};
-ghost use Rattle.image.specs.Results.{as_result, Queued, numbers_below};
+ghost use Rattle.image.specs.Results.{as_result, Queued};
 
 use crate::nodes::Entries;
 use crate::refusing::{refuse_at, refuse_unless};
@@ -54,27 +54,16 @@ impl Entries<'_> {
         refuse_unless(count <= room, Reason::ShortWorkList, count)
     }
 
-    // Puts the number of entry `e` into the queue, if it is a label's, and gives the new length.
-    fn push_number(self, numbers: &mut [u32], len: usize, e: usize) -> usize
-        requires within { e < self.reader.entries }
-        requires room { length (label_numbers (image_of self.reader.bytes.now)) ≤ length numbers.old }
-        requires queued { Queued (numbers_below (image_of self.reader.bytes.now) e) numbers.old len }
-        ensures { Queued (numbers_below (image_of self.entry.reader.bytes.now) (e + 1)) numbers.new result }
-    {
-        if !self.is_leaf_entry(e) {
-            return len;
-        }
-        push(numbers, len, self.reader.target(e)).unwrap_or(len)
-    }
-
-    // Makes a queue of the numbers of all labels, and gives its length.
+    // Makes a queue of the numbers of all labels, and gives its length. The list is lent, and is filled from the front: the checks take no memory.
     fn push_numbers(self, numbers: &mut [u32]) -> usize
         requires { length (label_numbers (image_of self.reader.bytes.now)) ≤ length numbers.old }
         ensures { Queued (label_numbers (image_of self.entry.reader.bytes.now)) numbers.new result }
     {
         let mut len = 0;
         for e in 0..self.reader.entries {
-            len = self.push_number(numbers, len, e);
+            if self.is_leaf_entry(e) {
+                len = push(numbers, len, self.reader.target(e)).unwrap_or(len);
+            }
         }
         len
     }

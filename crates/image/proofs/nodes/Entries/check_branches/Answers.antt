@@ -2,7 +2,7 @@ use Rattle.std.proofs.Common.{◌∷◌, sym, ap, ◌∙◌}
 use Rattle.image.specs.Layout.{image_of}
 use Rattle.image.specs.Checks.{first_of}
 use Rattle.image.specs.Results.{as_result, lead_checks}
-use Rattle.image.proofs.nodes.Entries.check_tree.Goals as goal
+use Rattle.image.proofs.nodes.Entries.check_branches.Goals as goal
 
 pub returns : goal.returns
 returns c =
