@@ -17,10 +17,7 @@ impl Reader<'_> {
         requires { e < self.entries }
         ensures { result ≡ label_slot (label_from ((image_of self.entry.bytes.now).target e) ((image_of self.entry.bytes.now).west e) ((image_of self.entry.bytes.now).south e)) }
     {
-        match Label::new(self.target(e), self.west(e), self.south(e)) {
-            Ok(l) => Slot::Holds(l),
-            Err(_) => Slot::Empty,
-        }
+        Label::new(self.target(e), self.west(e), self.south(e)).map_or(Slot::Empty, Slot::Holds)
     }
 
     // The branch that entry `e` writes.
@@ -28,10 +25,8 @@ impl Reader<'_> {
         requires { e < self.entries }
         ensures { result ≡ branch_slot ((image_of self.entry.bytes.now).target e) (rect_from ((image_of self.entry.bytes.now).west e) ((image_of self.entry.bytes.now).south e) ((image_of self.entry.bytes.now).east e) ((image_of self.entry.bytes.now).north e)) }
     {
-        match self.rect(e) {
-            Ok(b) => Slot::Leads(b, self.target(e) as usize),
-            Err(_) => Slot::Empty,
-        }
+        let to = self.target(e) as usize;
+        self.rect(e).map_or(Slot::Empty, |b| Slot::Leads(b, to))
     }
 
     // What node `i` of an accepted image, whose slot 0 is entry `first`, has in slot `j`.

@@ -26,10 +26,7 @@ impl NodeStore for ImageStore {
     }
 
     fn root_box(&self) -> Rect {
-        match self.reader().rect(0) {
-            Ok(b) => b,
-            Err(_) => unreachable(),
-        }
+        self.reader().rect(0).unwrap()
     }
 
     fn meter(&self) -> u32 {

@@ -1,20 +1,16 @@
-use Rattle.std.proofs.Common.{◌≡◌, ℕ, Ok, Err, vec_items, ap, ◌∙◌, arith}
-use Rattle.geometry.specs.Plane.{rect_from}
+use Rattle.std.proofs.Common.{◌≡◌, is_ok, Ok, vec_items, sym, ap, ◌∙◌}
 use Rattle.image.specs.Layout.{image_of}
 use Rattle.image.specs.Nodes.{table_of}
-use Rattle.image.specs.Held.{root-made}
+use Rattle.image.proofs.Slotting.{root-read}
 use Rattle.image.proofs.store.nodes.ImageStoreNodeStore.root_box.Goals as goal
 
-pub unreachable-requires : goal.unreachable-requires
-unreachable-requires c =
+pub unwrap-requires : goal.unwrap-requires
+unwrap-requires c =
     let s = c.args.self.now in
-    let made : Err c.in-Err.field-0 ≡ Ok (table_of (image_of (vec_items s.bytes))).box =
-    c.in-Err.ensures ∙ ap (λ l. rect_from ((image_of l).west 0) ((image_of l).south 0) ((image_of l).east 0) ((image_of l).north 0)) c.reader.ensures.bytes ∙ root-made (vec_items s.bytes) s.fine in
-    let z : ◌≡◌ {A = ℕ} 0 1 = cc in omega arith
+    ap is_ok (c.rect.ensures ∙ root-read (vec_items s.bytes) c.reader.result.bytes.now c.reader.ensures.bytes s.fine)
 
 pub returns : goal.returns
 returns c =
     let s = c.args.self.now in
-    let made : Ok c.in-Ok.b ≡ Ok (table_of (image_of (vec_items s.bytes))).box =
-    c.in-Ok.ensures ∙ ap (λ l. rect_from ((image_of l).west 0) ((image_of l).south 0) ((image_of l).east 0) ((image_of l).north 0)) c.reader.ensures.bytes ∙ root-made (vec_items s.bytes) s.fine in
+    let made : Ok c.unwrap.result ≡ Ok (table_of (image_of (vec_items s.bytes))).box = sym c.unwrap.ensures ∙ c.rect.ensures ∙ root-read (vec_items s.bytes) c.reader.result.bytes.now c.reader.ensures.bytes s.fine in
     cc
