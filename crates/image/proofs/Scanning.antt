@@ -10,10 +10,10 @@ use Rattle.std.proofs.lemmas.List.Folds.{list_all-append}
 use Rattle.std.proofs.lemmas.List.{append-nil, map-append, length-append, length-set, get_or-set_same, get_or-set_other}
 use Rattle.geometry.specs.declared.refusal.Reason.{Reason}
 use Rattle.geometry.specs.Refusals.{refusal}
-use Rattle.image.specs.Checks.{first_bad, at_first, branch_fine, target_fine, led_to, inside_fine}
+use Rattle.image.specs.Checks.{first_bad, at_first, branch_fine, target_fine}
 use Rattle.image.specs.Layout.{Image, image_of}
-use Rattle.image.specs.Nodes.{start, is_leaf, owner, is_leaf_entry, is_branch, leader_below, leader, label_numbers}
-use Rattle.image.specs.Results.{as_result, Sized, Owned, Led, leading, inside_of, numbers_below}
+use Rattle.image.specs.Nodes.{start, is_leaf, owner, is_leaf_entry, is_branch, leader_below, label_numbers}
+use Rattle.image.specs.Results.{as_result, Sized, Owned, Led, leading, numbers_below}
 use Rattle.image.specs.Ranges.{counting-append}
 use Rattle.image.specs.Owners.{start-more, start-rises, owner-is, owner-in}
 
@@ -159,17 +159,9 @@ leading-some : (e : ℕ) → 1 ≤ e → Some e ≡ leading e
 leading-some zero h = absurd (omega arith)
 leading-some (suc e) h = refl
 
-leading-told : (e : ℕ) → is_some (leading e) ≡ not (eqb e 0)
-leading-told zero = refl
-leading-told (suc e) = sym (ap not (ne_eqb (suc e) 0 (λ q. omega (arith, q))))
-
 leading-or : (e : ℕ) → unwrap_or (leading e) 0 ≡ e
 leading-or zero = refl
 leading-or (suc e) = refl
-
-pub leading-none : (o : Option ℕ) (e : ℕ) → o ≡ leading e → not (is_some o) ≡ eqb e 0
-leading-none o zero q = ap (λ p. not (is_some p)) q
-leading-none o (suc e) q = ap (λ p. not (is_some p)) q ∙ sym (ne_eqb (suc e) 0 (λ q. omega (arith, q)))
 
 -- who leads to each node, with one more entry
 pub led-branch : (bs : List ℕ) (ls : List (Option ℕ)) (e : ℕ) → Led bs ls e → 1 ≤ e → is_leaf_entry (image_of bs) e ≡ false → target_fine (image_of bs) e ≡ true → (image_of bs).nodes ≤ 128 → Led bs (set ls ((image_of bs).target e) (Some e)) (e + 1)
@@ -195,16 +187,7 @@ led-leaf bs ls e l t = led-other bs ls e l (grind (arith, nat_tests))
 pub led-root : (bs : List ℕ) (ls : List (Option ℕ)) (e : ℕ) → Led bs ls e → e < 1 → Led bs ls (e + 1)
 led-root bs ls e l z = led-other bs ls e l (grind (arith, nat_tests))
 
--- whether a node is led to
 module _ (d : Image) where
-  pub root-led : (k : ℕ) → k < 1 → led_to d k ≡ true
-  root-led zero h = refl
-  root-led (suc k) h = absurd (omega arith)
-
-  pub node-led : (k : ℕ) (o : Option ℕ) → 1 ≤ k → o ≡ leading (leader d k) → is_some o ≡ led_to d k
-  node-led zero o h e = absurd (omega arith)
-  node-led (suc k) o h e = ap is_some e ∙ leading-told (leader d (suc k))
-
   lead-next : (e k : ℕ) → leader_below d e k ≤ e → leader_below d (suc e) k ≤ e
   unfolding leader_below
   lead-next e k low =
@@ -221,15 +204,6 @@ module _ (d : Image) where
   pub leader-before : (e k : ℕ) → 1 ≤ e → leader_below d e k < e
   leader-before zero k h = absurd (omega arith)
   leader-before (suc e) k h = omega (arith, lead-next e k (lead_low e k))
-
-  -- an entry's place in its node's box
-  pub root-inside : (e : ℕ) → e < 1 → inside_fine d e ≡ true
-  root-inside zero h = refl
-  root-inside (suc e) h = absurd (omega arith)
-
-  pub entry-inside : (e b : ℕ) (t : Bool) → 1 ≤ e → b ≡ leader d (owner d e) → inside_of d b e ≡ t → inside_fine d e ≡ t
-  entry-inside zero b t h q r = absurd (omega arith)
-  entry-inside (suc e) b t h q r = ap (λ k. inside_of d k (suc e)) (sym q) ∙ r
 
   -- the numbers of the labels, with one more entry
   pub numbers-none : numbers_below d 0 ≡ []
