@@ -29,6 +29,9 @@ leaf-entry d e h t = and-made (nat_le 1 e) (is_leaf d (owner d e)) (grind (arith
 pub branch-entry : (d : Image) (e : ℕ) → 1 ≤ e → is_leaf d (owner d e) ≡ false → is_branch d e ≡ true
 branch-entry d e h f = and-made (nat_le 1 e) (not (is_leaf d (owner d e))) (grind (arith, nat_tests)) (ap not f)
 
+pub no-branch : (d : Image) (e : ℕ) → is_leaf d (owner d e) ≡ true → is_branch d e ≡ false
+no-branch d e t = ⊎_elim (λ b. absurd (both_ways (not (is_leaf d (owner d e))) (ap not t) (and_both (nat_le 1 e) (not (is_leaf d (owner d e))) b).1)) (λ f. f) (cases_Bool (is_branch d e))
+
 pub branch-told : (d : Image) (e : ℕ) → is_branch d e ≡ true → (1 ≤ e) × (is_leaf d (owner d e) ≡ false)
 branch-told d e b =
     let both = and_both (nat_le 1 e) (not (is_leaf d (owner d e))) b in

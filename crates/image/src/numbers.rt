@@ -16,7 +16,7 @@ use crate::refusing::{refuse_at, refuse_unless};
 use geometry::{Reason, Refusal};
 use queue::{pop, push};
 
-// The smallest number that is twice in a queue.
+// The smallest number that is twice in a queue. The list and its length stand apart, as the queue's calls take them: the list is lent, and the checks take no memory.
 fn first_repeated(items: &mut [u32], len: usize) -> Option<u32>
     requires { (Heap nat_lt items.old len) × (len ≤ length items.old) }
     ensures { result ≡ repeated_in (sorted nat_lt (take len items.old)) }
@@ -54,7 +54,7 @@ impl Entries<'_> {
         refuse_unless(count <= room, Reason::ShortWorkList, count)
     }
 
-    // Makes a queue of the numbers of all labels, and gives its length. The list is lent, and is filled from the front: the checks take no memory.
+    // Makes a queue of the numbers of all labels, from the front of the list on, and gives its length.
     fn push_numbers(self, numbers: &mut [u32]) -> usize
         requires { length (label_numbers (image_of self.reader.bytes.now)) ≤ length numbers.old }
         ensures { Queued (label_numbers (image_of self.entry.reader.bytes.now)) numbers.new result }

@@ -63,6 +63,7 @@ impl Reader<'_> {
         i32::from_be_bytes(self.four_at(4 + 2 * self.nodes + 16 * e + after))
     }
 
+    // The sides of the box of entry `e`.
     #[tactic(auto, unfolding(crate::specs::Layout::image_of))]
     pub(crate) fn west(self, e: usize) -> i32
         requires { e < self.entries }
