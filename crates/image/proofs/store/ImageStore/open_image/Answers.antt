@@ -5,7 +5,6 @@ use Rattle.index.specs.Laws.{Lawful}
 use Rattle.image.specs.Layout.{image_of}
 use Rattle.image.specs.Nodes.{start, table_of}
 use Rattle.image.specs.Checks.{verdict}
-use Rattle.image.specs.Opened.{has_open}
 use Rattle.image.specs.Results.{as_result}
 use Rattle.image.specs.Store.{HasEntries}
 use Rattle.image.specs.Exactly.{accepted, accepted-obeys, obeys-accepted}
@@ -21,21 +20,18 @@ returns-in_err-reader-clause-exactly c fits =
     let told : c.from_residual.result ≡ as_result (verdict bs room) = p.1 ∙ ap (λ e. Err e) p.2 ∙ ap as_result (sym c.in_err-reader.ensures) in
     (λ h. absurd (both_ways (is_ok c.from_residual.result) (ap is_ok p.1) h), λ o. ap is_ok told ∙ ap (λ v. is_ok (as_result v)) (obeys-accepted bs room fits o))
 
-pub invariant_of-self : goal.invariant_of-self
-invariant_of-self c =
-    let bs = c.args.bytes.now in
-    let room = length c.args.numbers.now in
-    let none = c.in_ok-reader.ensures.0 in
+pub invariant_of-self-clause-fine : goal.invariant_of-self-clause-fine
+invariant_of-self-clause-fine c =
+    subst (λ l. is_some (verdict l 1537) ≡ false) (sym c.refill.ensures.items) (ap is_some (accepted-roomy c.args.bytes.now (length c.args.numbers.now) c.in_ok-reader.ensures.0))
+
+pub invariant_of-self-clause-sized : goal.invariant_of-self-clause-sized
+invariant_of-self-clause-sized c =
     let r = c.in_ok-reader.reader in
     let read = c.in_ok-reader.ensures.1 ∙ sym c.refill.ensures.items in
-    let same = sym c.refill.ensures.items in
-    record {
-      roomy = omega (arith, c.refill.ensures.room, c.args.self.now.roomy);
-      fine = subst (λ l. is_some (verdict l 1537) ≡ false) same (ap is_some (accepted-roomy bs room none));
-      sized = (r.sized.nodes ∙ ap (λ l. (image_of l).nodes) read, r.sized.entries ∙ ap (λ l. (image_of l).entries) read);
-      placed = λ i h. c.starts-self.ensures i (omega (arith, h)) ∙ ap (λ l. start (image_of l) i) read;
-      within = ap (has_open (image_of c.refill.new.list.items)) c.new-self.ensures.node;
-    }
+    (r.sized.nodes ∙ ap (λ l. (image_of l).nodes) read, r.sized.entries ∙ ap (λ l. (image_of l).entries) read)
+
+pub invariant_of-self-clause-placed : goal.invariant_of-self-clause-placed
+invariant_of-self-clause-placed c i h = c.starts-self.ensures i (omega (arith, h)) ∙ ap (λ l. start (image_of l) i) (c.in_ok-reader.ensures.1 ∙ sym c.refill.ensures.items)
 
 pub returns-clause-exactly : goal.returns-clause-exactly
 returns-clause-exactly c fits =
