@@ -10,10 +10,7 @@ ghost use Rattle.image.specs.Results.{as_result, Led, leads_down};
 use crate::nodes::Entries;
 use crate::reading::MOST_NODES;
 use crate::refusing::refuse_unless;
-use geometry::{Reason, Refusal};
-
-// The greatest number of a label.
-const LAST_NUMBER: u32 = 999_999_999;
+use geometry::{Reason, Refusal, numbered};
 
 // The entries of an image, and which of them leads to each node.
 #[derive(Drop)]
@@ -47,7 +44,7 @@ impl<'a> Entries<'a> {
             return to == 0;
         }
         if self.is_leaf_entry(e) {
-            return (1..=LAST_NUMBER).contains(&to);
+            return numbered(to);
         }
         self.leads_down(e) && leaders[to as usize].is_none()
     }
