@@ -1,8 +1,4 @@
-use Rattle.std.proofs.Common.{◌≡◌, true, sym, subst}
-use Rattle.geometry.specs.Plane.{span}
-use Rattle.lattice.specs.Grid.{along}
 use Rattle.lattice.specs.Ranges.{advanced, along-near}
-use Rattle.lattice.specs.Fitting.{point-spans}
 use Rattle.lattice.specs.Slots.{first-empty}
 use Rattle.lattice.specs.Tree.{root-leads}
 use Rattle.lattice.proofs.lattice.Lattice.root_slot.Goals as goal
