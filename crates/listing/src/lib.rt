@@ -8,4 +8,4 @@ pub mod list;
 pub use failure::Failure;
 pub use found::Found;
 pub use list::LabelList;
-pub use list::nearest::nearest_of;
+pub use list::nearest::{counted, nearest_of};

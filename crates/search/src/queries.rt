@@ -14,6 +14,7 @@ ghost use Rattle.search.specs.Asking.{ranking_of, answers_to, openings_for};
 use crate::query::Query;
 use geometry::{Place, Reason, Refusal};
 use index::{NodeStore, SLOTS};
+use listing::counted;
 use measure::Measure;
 use neighbours::{Item, Subject, Told};
 use queue::Ranked;
@@ -39,7 +40,7 @@ pub fn spare_item<M: Measure>(measure: &M) -> Item<M::Distance>
 fn check_counts(counts: &[u32]) -> Result<(), Refusal>
     ensures { result ≡ checked (all_counted counts.now) }
 {
-    if counts.iter().all(|k| (1..=64).contains(k)) {
+    if counts.iter().all(|k| counted(*k)) {
         return Ok(());
     }
     Err(Refusal {

@@ -2,7 +2,7 @@ ghost use Rattle.std.specs.Prelude.{◌≡◌, ◌-◌, ◌≤◌, map, IfOk, So
 ghost use Rattle.geometry.specs.Plane.{place_at};
 ghost use Rattle.listing.specs.declared.failure.Failure.TheVariants.{Refused, NoMemory};
 ghost use Rattle.listing.specs.Neighbours.{found, nearer, nearest, listing};
-ghost use Rattle.listing.specs.Lists.{labels_of, refused_listing};
+ghost use Rattle.listing.specs.Lists.{labels_of, counted, refused_listing};
 
 use super::LabelList;
 use crate::failure::Failure;
@@ -62,6 +62,13 @@ fn take_nearest<D: Ranked>(
     Ok(nearest)
 }
 
+// Whether as many neighbours may be asked for: from 1 to 64.
+pub fn counted(k: u32) -> bool
+    ensures { result ≡ counted k }
+{
+    (1..=64).contains(&k)
+}
+
 // The labels among the `k` nearest to a place, ties let in, by distance and then by number.
 pub fn nearest_of<M: Measure>(
     heap: Global,
@@ -74,7 +81,7 @@ pub fn nearest_of<M: Measure>(
     ensures refusal { MatchResult result (λ _. refused_listing x y k ≡ None) (λ f. elim f [ Refused e ↦ refused_listing x y k ≡ Some e | NoMemory ↦ refused_listing x y k ≡ None ]) }
     ensures listing { IfOk result (λ v. v.items ≡ listing M.Distance.Ranked.precedes (M.dist measure.now (place_at x y)) k labels.now) }
 {
-    if k < 1 || k > 64 {
+    if !counted(k) {
         return Err(Failure::Refused(Refusal {
             reason: Reason::BadCount,
             place: 0,

@@ -1,4 +1,4 @@
-use Rattle.std.proofs.Common.{ap, ◌∙◌, arith, w32, SFits}
+use Rattle.std.proofs.Common.{sym, ap, ◌∙◌, w32, SFits}
 use Rattle.std.proofs.lemmas.Int.{to_z-of_z}
 use Rattle.std.proofs.lemmas.Result.{err_from_is_err_and}
 use Rattle.geometry.proofs.Boxes.{place-told}
@@ -11,7 +11,7 @@ returns-in_err-take_nearest g c =
     let fx : SFits w32 c.args.x = c.ranges.x in
     let fy : SFits w32 c.args.y = c.ranges.y in
     let told = place-told c.in_ok-from.from c.args.x c.args.y (simp to_z-of_z at c.in_ok-from.ensures) in
-    let fine = accepted c.args.x c.args.y c.args.k told.0 (omega arith) (omega arith) in
+    let fine = accepted c.args.x c.args.y c.args.k (sym c.if-not-counted.ensures) told.0 in
     let p = err_from_is_err_and c.from_residual-in_err-take_nearest.result c.from_residual-in_err-take_nearest.ensures.1 in
     rw (p.1, p.2) (record { refusal = fine; listing = tt })
 
@@ -20,7 +20,7 @@ returns g c =
     let fx : SFits w32 c.args.x = c.ranges.x in
     let fy : SFits w32 c.args.y = c.ranges.y in
     let told = place-told c.in_ok-from.from c.args.x c.args.y (simp to_z-of_z at c.in_ok-from.ensures) in
-    let fine = accepted c.args.x c.args.y c.args.k told.0 (omega arith) (omega arith) in
+    let fine = accepted c.args.x c.args.y c.args.k (sym c.if-not-counted.ensures) told.0 in
     let lt = g.M.Distance.Ranked.precedes in
     let k = c.args.k in
     let to = g.M.Measure.dist c.args.measure.now in
