@@ -40,6 +40,7 @@ impl<'a> Reader<'a> {
         let [_, _, _, _, sizes @ ..] = self.bytes else {
             return Ok(());
         };
+        // That the size bytes are taken apart by patterns is a rule of the project; the count is the place of a refusal.
         let mut left = sizes;
         for i in 0..self.nodes {
             let [level, count, rest @ ..] = left else {
@@ -61,6 +62,7 @@ impl<'a> Reader<'a> {
         ensures { (i : ℕ) → i ≤ self.entry.nodes → slice_index result i ≡ start (image_of self.entry.bytes.now) i }
     {
         let mut starts = [1; STARTS];
+        // Each start is made from the one before it, which no iterator lends beside the place that it writes.
         for i in 0..self.nodes {
             starts[i + 1] = starts[i] + self.count(i) as usize;
         }
@@ -86,6 +88,7 @@ impl<'a> Reader<'a> {
         ensures { result.reader ≡ self.entry }
     {
         let starts = self.starts();
+        // The node's number is what is written, so an iterator over the starts would have to count as well.
         for i in 0..self.nodes {
             write_all(owners, starts[i], starts[i + 1], i);
         }

@@ -59,6 +59,7 @@ impl Entries<'_> {
         requires { length (label_numbers (image_of self.reader.bytes.now)) ≤ length numbers.old }
         ensures { Queued (label_numbers (image_of self.entry.reader.bytes.now)) numbers.new result }
     {
+        // An entry is read by its number, at places of the bytes that follow from it: there is no list to go over.
         let mut len = 0;
         for e in 0..self.reader.entries {
             if self.is_leaf_entry(e) {

@@ -50,6 +50,7 @@ pub fn labels_of<S: NodeStore>(heap: Global, store: &mut S) -> Result<Vec<Label>
 {
     let mut labels = Vec::new(heap);
     store.zero();
+    // A store opens a node by its number, and lends no list of nodes.
     for i in 0..store.node_count() {
         // There are at most 300 nodes, which the meter can count.
         let Ok(()) = store.open(i) else {
@@ -97,6 +98,7 @@ pub fn nodes_of<S: NodeStore>(heap: Global, store: &mut S) -> Result<String, All
     let mut boxes = vec![in heap; root; store.node_count()]?;
     let mut lines = String::new(heap);
     store.zero();
+    // A store opens a node by its number, and lends no list of nodes.
     for i in 0..store.node_count() {
         let Ok(()) = store.open(i) else {
             unreachable!()

@@ -42,7 +42,8 @@ fn is_numbered(rows: u32, columns: u32, first: u32) -> bool
     numbered(first) && numbered(first + STRIDE * (rows - 1) + (columns - 1))
 }
 
-// Whether the numbers of a lattice are in range, or else why not.
+// Whether the numbers of a lattice are in range, or else why not. They are the fields of a lattice: a struct for them
+// alone would be a lattice again, not yet checked.
 fn check(rows: u32, columns: u32, step: u32, x: i32, y: i32, first: u32) -> Result<(), Refusal>
     ensures { MatchResult result (λ _. refused_grid rows columns step x y first ≡ None) (λ e. refused_grid rows columns step x y first ≡ Some e) }
 {
