@@ -16,7 +16,8 @@ fn is_in_size(n: usize, m: usize) -> bool
     (1..=MOST_NODES).contains(&n) && (1..=MOST_ENTRIES).contains(&m)
 }
 
-// How many nodes and entries there are, by the first four bytes; the others are as many as that asks for.
+// What reads the bytes: the first four tell how many nodes and entries there are, and the others are as many as that
+// asks for.
 fn read_sizes(bytes: &[u8]) -> Result<Reader<'_>, Refusal>
     ensures { MatchResult result (λ r. (header_verdict bytes.now ≡ None) × (r.bytes.now ≡ bytes.now)) (λ e. header_verdict bytes.now ≡ Some e) }
 {
@@ -82,6 +83,7 @@ impl Reader<'_> {
         requires { start (image_of self.bytes.now) self.nodes ≡ self.entries }
         ensures { result ≡ as_result (first_of (entry_checks (image_of self.entry.bytes.now) self.entry.nodes self.entry.entries (length numbers.old))) }
     {
+        // In fixed memory, by a rule of the project: an image is checked without any on the heap.
         let mut owners = [0usize; MOST_ENTRIES];
         self.find_owners(&mut owners).check(numbers)
     }

@@ -40,7 +40,8 @@ impl<'a> Reader<'a> {
         let [_, _, _, _, sizes @ ..] = self.bytes else {
             return Ok(());
         };
-        // That the size bytes are taken apart by patterns is a rule of the project; the count is the place of a refusal.
+        // That the size bytes are taken apart by patterns is a rule of the project; the count is the place of a
+        // refusal.
         let mut left = sizes;
         for i in 0..self.nodes {
             let [level, count, rest @ ..] = left else {
@@ -62,7 +63,7 @@ impl<'a> Reader<'a> {
         ensures { (i : ℕ) → i ≤ self.entry.nodes → slice_index result i ≡ start (image_of self.entry.bytes.now) i }
     {
         let mut starts = [1; STARTS];
-        // Each start is made from the one before it, which no iterator lends beside the place that it writes.
+        // A node's count is read by its number, and each start is written from the one before it.
         for i in 0..self.nodes {
             starts[i + 1] = starts[i] + self.count(i) as usize;
         }

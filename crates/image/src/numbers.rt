@@ -16,7 +16,8 @@ use crate::refusing::{refuse_at, refuse_unless};
 use geometry::{Reason, Refusal};
 use queue::{pop, push};
 
-// The smallest number that is twice in a queue. The list and its length stand apart, as the queue's calls take them: the list is lent, and the checks take no memory.
+// The smallest number that is twice in a queue. The list and its length stand apart, as the queue's calls take them:
+// the list is lent, and the checks take no memory.
 fn first_repeated(items: &mut [u32], len: usize) -> Option<u32>
     requires { (Heap nat_lt items.old len) × (len ≤ length items.old) }
     ensures { result ≡ repeated_in (sorted nat_lt (take len items.old)) }

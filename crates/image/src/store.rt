@@ -10,7 +10,8 @@ use index::Openings;
 pub mod nodes;
 pub mod opening;
 
-// A store that holds an accepted image, the entry in slot 0 of each of its nodes, and memory for the longest image. The starts stand in fixed memory, since opening an image takes none.
+// A store that holds an accepted image, the entry in slot 0 of each of its nodes, and memory for the longest image. The
+// starts stand in fixed memory, since opening an image takes none.
 #[derive(Drop)]
 pub struct ImageStore {
     bytes: Vec<u8>,

@@ -76,6 +76,7 @@ impl<'a> Entries<'a> {
     pub(crate) fn check_targets(self) -> Result<Leads<'a>, Refusal>
         ensures { MatchResult result (λ l. (at_first (first_bad (target_fine (image_of self.entry.reader.bytes.now)) self.entry.reader.entries) (target_reason (image_of self.entry.reader.bytes.now)) ≡ None) × (l.entries ≡ self.entry)) (λ r. at_first (first_bad (target_fine (image_of self.entry.reader.bytes.now)) self.entry.reader.entries) (target_reason (image_of self.entry.reader.bytes.now)) ≡ Some r) }
     {
+        // In fixed memory, as the nodes of the entries are.
         let mut leaders = [None; MOST_NODES];
         // An entry is read by its number, and each turn writes what the next ones ask.
         for e in 0..self.reader.entries {

@@ -22,10 +22,8 @@ fn said(line: &str) -> &str {
 // Echoes each line of the script that says something, and prints what comes of it.
 fn follow<R: BufRead + Drop>(rt: &HostRuntime, script: R) -> anyhow::Result<()> {
     let mut session = Session::new(rt);
-    let mut number: u64 = 0;
-    for line in script.split(rt.alloc(), b'\n') {
+    for (number, line) in (1..u64::MAX).zip(script.split(rt.alloc(), b'\n')) {
         let line = line?;
-        number = number.saturating_add(1);
         let Ok(text) = from_utf8(line.as_slice()) else {
             println!(rt; "line {number}: expected text in UTF-8")?;
             continue;

@@ -100,6 +100,7 @@ pub fn nodes_of<S: NodeStore>(heap: Global, store: &mut S) -> Result<String, All
     store.zero();
     // A store opens a node by its number, and lends no list of nodes.
     for i in 0..store.node_count() {
+        // There are at most 300 nodes, which the meter can count.
         let Ok(()) = store.open(i) else {
             unreachable!()
         };

@@ -1,5 +1,5 @@
 -- Numbers and pairs of numbers are in order.
-use Rattle.std.specs.Prelude.{Bool, nat_lt}
+use Rattle.std.specs.Prelude.{◌≡◌, ℕ, Bool, true, false, cond, ◌==◌, nat_lt}
 use Rattle.std.proofs.Common.{arith}
 use Rattle.std.proofs.lemmas.Bool.Decides.{nat_tests}
 use Rattle.queue.specs.Order.{Order, by_first, smaller}
@@ -24,3 +24,7 @@ first-order {X} {Y} o p =
 
 pub pair-order : Order smaller
 pair-order = first-order number-order number-order
+
+-- by the first numbers, and by the second where the first are equal
+pub smaller-told : (a b : ℕ × ℕ) → smaller a b ≡ cond (nat_lt a.0 b.0) true (cond (a.0 == b.0) (nat_lt a.1 b.1) false)
+smaller-told a b = grind (arith, nat_tests)

@@ -1,5 +1,5 @@
-// A priority queue: a binary heap in the front of a slice that is lent. Its length stands beside the slice: it is a rule of
-// the project that a work list is lent and nothing is put on the heap, so no type of the queue's own holds the items.
+// A priority queue: a binary heap in the front of a slice that is lent. The length stands beside the slice, since it is
+// a rule of the project that the queue is generic functions over a list that their caller lends.
 #![tactic(auto)]
 
 ghost use Rattle.std.specs.Prelude.{◌≡◌, ℕ, ◌+◌, ◌-◌, ◌*◌, ◌/◌, ◌<◌, ◌≤◌, Bool, true, false, length, take, drop, nat_lt, slice_index_or};
@@ -18,7 +18,8 @@ pub trait Ranked: Copy {
     ghost ordered: { Order precedes };
 }
 
-// The impls of two kinds of numbers are alike: one for every kind that has `Ord` would overlap the impl for pairs.
+// The impls for two kinds of numbers are alike: one for every kind that has `Ord` would overlap that for pairs, which
+// also orders pairs of kinds that have none.
 impl Ranked for u64 {
     ghost precedes = { nat_lt };
 

@@ -152,6 +152,7 @@ fn wholes<const N: usize>(words: &[&str]) -> Option<[i64; N]>
         return None;
     }
     let mut numbers = [0; N];
+    // What is written through a `zip` is not known to a proof, so the words come by `next`.
     let mut rest = words.iter();
     for number in numbers.iter_mut() {
         *number = whole(rest.next()?)?;

@@ -1,4 +1,5 @@
-// Whole numbers as a script writes them, and the nearest numbers of the types that the calls take.
+// Whole numbers as a script writes them, and the nearest numbers of the types that the calls take. By hand: what is too
+// large is taken to the nearest number that fits, and the library's `parse` and `TryFrom` refuse it.
 ghost use Rattle.std.specs.Prelude.{◌≡◌, pos};
 ghost use Rattle.std.specs.Option.{SomeIff};
 ghost use Rattle.std.specs.Int.{saturate_to_bits};

@@ -17,8 +17,8 @@ use neighbours::{Arrival, Item, Limit, View};
 use queue::Ranked;
 
 impl<M: Measure> Sight<'_, M> {
-    // Whether fewer than `k` of the labels that the view shows are nearer than `end`. Goes from the nearest label on, as
-    // long as they are nearer than `end` and fewer than `k` have come.
+    // Whether fewer than `k` of the labels that the view shows are nearer than `end`. Goes from the nearest label on,
+    // as long as they are nearer than `end` and fewer than `k` have come.
     fn few_nearer<S: NodeStore>(
         &self,
         store: &mut S,
@@ -45,7 +45,8 @@ impl<M: Measure> Sight<'_, M> {
 }
 
 impl<M: Measure> Query<'_, M> {
-    // Whether the query's place is near in turn to a candidate, under `k`: its own label and the candidate are left out.
+    // Whether the query's place is near in turn to a candidate, under `k`: its own label and the candidate are left
+    // out.
     fn is_confirmed<S: NodeStore>(
         &self,
         store: &mut S,
@@ -73,8 +74,8 @@ impl<M: Measure> Query<'_, M> {
         from_there.few_nearer(store, candidate.distance, k, items)
     }
 
-    // Whether a candidate is an answer: always where none is confirmed. Which step runs is told by a count, and not by a
-    // closure, which would hold the store and the second work list, and whose contract would be this one again.
+    // Whether a candidate is an answer: always where none is confirmed. Which step runs is told by a count, and not by
+    // a closure, which would hold the store and the second work list, and whose contract would be this one again.
     pub fn is_answer<S: NodeStore>(
         &self,
         store: &mut S,

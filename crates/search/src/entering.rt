@@ -13,8 +13,8 @@ use measure::Measure;
 use neighbours::{Item, Subject};
 use queue::{Ranked, push};
 
-// Here and in what calls these, the queue is the first `len` of `items`, a heap that is changed in place: one list that the
-// caller lends for the whole query is a rule of the project.
+// Here and in what calls these, the queue is the first `len` of `items`, a heap that is changed in place: one list that
+// the caller lends for the whole query is a rule of the project.
 impl<M: Measure> Sight<'_, M> {
     // The item of a slot, if it has one that the view shows.
     fn item_of(&self, slot: Slot) -> Option<Item<M::Distance>>
@@ -50,8 +50,8 @@ impl<M: Measure> Sight<'_, M> {
         }
     }
 
-    // Pushes the items of the open node, and gives the length of the queue then. A store tells a node's slots by their
-    // places alone, so the loop goes over the places.
+    // Pushes the items of the open node, and gives the length of the queue then. The loop goes over the places of the
+    // slots: a list of the slots would be made only to be gone over once.
     fn push_items<S: NodeStore>(
         &self,
         store: &S,

@@ -23,8 +23,9 @@ fn limit_after<D: Ranked>(limit: Limit<D>, came: u32, k: u32, distance: D) -> Li
     }
 }
 
-// Puts an answer behind the others, and gives their count then; `None` where there is no place. The place is tested and
-// then written, since a proof knows no element of a slice once what its `get_mut` lent has been written.
+// Puts an answer behind the others, and gives their count then; `None` where there is no place. That the list is lent,
+// and filled from the front, is a rule of the project. The place is tested and then written, since a proof knows no
+// element of a slice once what its `get_mut` lent has been written.
 fn put_answer(answers: &mut [u32], count: usize, number: u32) -> Option<usize>
     ensures told { result ≡ put_at answers.old count }
     ensures answers { answers.new ≡ slice_set answers.old count number }

@@ -1,7 +1,7 @@
 use geometry::Place;
 
-// A query as it was admitted: by which measure and from where, whose label is left out, how many may be nearer than an
-// answer, and how many in turn, where answers are confirmed.
+// A query as it was admitted: by which measure and from where, and whose label is left out. Fewer than `k` others are
+// nearer than an answer, and fewer than `confirming` in turn, where answers are confirmed.
 #[derive(Drop)]
 pub(crate) struct Query<'a, M> {
     pub measure: &'a M,

@@ -5,10 +5,10 @@ ghost use Rattle.lattice.specs.Grid.{along, grid_label, grid_box, grid_leaf, gri
 
 use super::Lattice;
 use geometry::{Label, Rect};
-use index::Slot;
+use index::{SLOTS, Slot};
 
 // The numbers from one row to the next: as many as a leaf has slots.
-pub(crate) const STRIDE: u32 = 12;
+pub(crate) const STRIDE: u32 = SLOTS as u32;
 
 // The coordinate `k` steps on from `z`.
 pub(crate) fn advance(z: i32, step: u32, k: u32) -> i32
@@ -25,10 +25,7 @@ impl Lattice {
         ensures { result ≡ grid_box self.now.columns self.now.step self.now.x south north }
     {
         let east = advance(self.x, self.step, self.columns - 1);
-        match Rect::new(self.x, south, east, north) {
-            Ok(r) => r,
-            Err(_) => unreachable(),
-        }
+        Rect::new(self.x, south, east, north).unwrap()
     }
 
     // The label in row `i` and column `j`.
@@ -38,10 +35,7 @@ impl Lattice {
     {
         let x = advance(self.x, self.step, j);
         let y = advance(self.y, self.step, i);
-        match Label::new(self.first + STRIDE * i + j, x, y) {
-            Ok(l) => l,
-            Err(_) => unreachable(),
-        }
+        Label::new(self.first + STRIDE * i + j, x, y).unwrap()
     }
 
     // Slot `j` of the root.

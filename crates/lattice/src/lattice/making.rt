@@ -5,10 +5,10 @@ ghost use Rattle.lattice.specs.Shown.{Fresh};
 use super::Lattice;
 use super::crossings::{STRIDE, advance};
 use geometry::{Reason, Refusal, in_range, numbered};
-use index::Openings;
+use index::{Openings, SLOTS};
 
 // A root leads to twelve leaves, and a leaf has twelve labels.
-const MOST_LINES: u32 = 12;
+const MOST_LINES: u32 = SLOTS as u32;
 
 const LONGEST_STEP: u32 = 100_000;
 
