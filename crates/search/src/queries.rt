@@ -86,7 +86,7 @@ fn conclude<S: NodeStore>(store: &S, count: Option<usize>) -> Result<Told, Refus
 }
 
 impl<M: Measure> Query<'_, M> {
-    // Answers the query: sets the meter to 0, puts the answers into the list, and tells their count and the openings.
+    // Answers the query where the meter stands at 0: puts the answers into the list, and tells their count and the openings.
     fn answer<S: NodeStore>(
         &self,
         store: &mut S,
@@ -94,6 +94,7 @@ impl<M: Measure> Query<'_, M> {
         second: &mut [Item<M::Distance>],
         answers: &mut [u32],
     ) -> Result<Told, Refusal>
+        requires zeroed { S.metered store.old ≡ 0 }
         requires count { 1 ≤ self.now.k }
         requires room { work_places (S.table store.old) ≤ length work.old }
         requires second { Roomy (S.table store.old) self.now.confirming (length second.old) }
@@ -103,7 +104,6 @@ impl<M: Measure> Query<'_, M> {
         ensures table { S.table store.new ≡ S.table store.old }
         ensures frames { S.frames store.new ≡ S.frames store.old }
     {
-        store.zero();
         let count = self.gather(store, work, second, answers);
         conclude(store, count)
     }
@@ -138,6 +138,7 @@ pub fn nearest<S: NodeStore, M: Measure>(
         confirming: None,
     };
     let mut none: [Item<M::Distance>; 0] = [];
+    store.zero();
     query.answer(store, work, &mut none, answers)
 }
 
@@ -173,5 +174,6 @@ pub fn mutual<S: NodeStore, M: Measure>(
         k: k1,
         confirming: Some(k2),
     };
+    store.zero();
     query.answer(store, work, second, answers)
 }

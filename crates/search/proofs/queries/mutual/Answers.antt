@@ -1,4 +1,4 @@
-use Rattle.std.proofs.Common.{◌≡◌, [], ◌∷◌, length, IfOk, Ok, Err, sym, refl, ap, ◌∙◌, subst, arith, w32, SFits}
+use Rattle.std.proofs.Common.{None, ◌≡◌, [], ◌∷◌, length, IfOk, Ok, Err, sym, refl, ap, ◌∙◌, subst, arith, w32, SFits}
 use Rattle.std.proofs.lemmas.Result.{err_from_is_err_and}
 use Rattle.std.proofs.lemmas.Int.{to_z-of_z}
 use Rattle.geometry.specs.Plane.{place_at}
@@ -57,13 +57,15 @@ returns g c =
     let none = (λ i. refused (sym (two-counts a.k1 a.k2) i) a.x a.y (work_places t) (sym c.min-shortest.ensures i)) ∙ ok.0 in
     let after = c.answer.new.store in
     let e = c.answer.ensures in
+    let z = c.zero.ensures.table in
     record {
-      told = e.told ∙ (λ i. outcome (sym none i) (mutual_answers near t (ok.1 i) a.own a.k1 a.k2) (mutual_openings near t (ok.1 i) a.own a.k1 a.k2) (length a.answers.now));
-      answers = e.answers ∙ (λ i. filled (sym none i) (mutual_answers near t (ok.1 i) a.own a.k1 a.k2) a.answers.now);
-      metered = subst (λ q. IfOk c.answer.result (λ t'. store.metered after ≡ mutual_openings near t q a.own a.k1 a.k2)) ok.1 e.metered;
+      told = e.told ∙ (λ i. outcome None (mutual_answers near (z i) from a.own a.k1 a.k2) (mutual_openings near (z i) from a.own a.k1 a.k2) (length a.answers.now)) ∙ (λ i. outcome (sym none i) (mutual_answers near t (ok.1 i) a.own a.k1 a.k2) (mutual_openings near t (ok.1 i) a.own a.k1 a.k2) (length a.answers.now));
+      answers = e.answers ∙ (λ i. filled None (mutual_answers near (z i) from a.own a.k1 a.k2) a.answers.now) ∙ (λ i. filled (sym none i) (mutual_answers near t (ok.1 i) a.own a.k1 a.k2) a.answers.now);
+      metered = subst (λ q. IfOk c.answer.result (λ t'. store.metered after ≡ mutual_openings near t q a.own a.k1 a.k2)) ok.1
+          (subst (λ u. IfOk c.answer.result (λ t'. store.metered after ≡ mutual_openings near u from a.own a.k1 a.k2)) z e.metered);
       links = links near t (λ p. ranks-never (ranks g.met.M.Distance.Ranked.ordered (m.dist a.measure.now) (m.bound a.measure.now) p)) (g.met.S.NodeStore.lawful a.store.now).apart;
-      table = e.table;
-      frames = e.frames;
+      table = e.table ∙ z;
+      frames = e.frames ∙ c.zero.ensures.frames;
       opened = g.met.S.NodeStore.within after;
       bounded = g.met.S.NodeStore.bounded after;
       work = (omega arith, omega arith);
