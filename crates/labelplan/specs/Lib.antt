@@ -1,2 +1,2 @@
-pub mod Commands
 pub mod Nodes
+pub mod Asked

@@ -7,8 +7,8 @@ use std::fs::File;
 use std::io::{BufRead, BufReader};
 use std::str::from_utf8;
 
-mod command;
 mod plan;
+mod query;
 mod session;
 
 // What a line says: the text before its comment, without the blanks around it.

@@ -3,22 +3,20 @@ ghost use Rattle.std.specs.List.{flat_map};
 ghost use Rattle.geometry.specs.Plane.{place_at};
 ghost use Rattle.listing.specs.Neighbours.{listing};
 ghost use Rattle.script.specs.Report.{entry_of};
-ghost use Rattle.labelplan.specs.Commands.{IsObeyed};
 
-use crate::command::parse;
 use crate::plan::{MapPlan, Plan, labels_of, nodes_of};
+use crate::query::{Lengths, answer};
 use geometry::Label;
 use image::ImageStore;
 use lattice::Lattice;
 use listing::{Failure, LabelList, nearest_of};
 use measure::{Measure, Straight, Street, Tile};
-use script::Command;
-use script::command::WorkList;
 use script::report::{Shown, label_lines, refused, row};
+use script::{Command, MeasureKind, Query, WorkList, parse};
 use std::alloc::{AllocError, Global};
 use std::fs;
 
-// The longest number list that is lent.
+// The longest list that is lent.
 const MOST_PLACES: u32 = 1_000_000;
 
 // One run of a script: what its commands work on.
@@ -28,8 +26,11 @@ pub struct Session<'a> {
     heap: Global,
     list: LabelList,
     plan: Option<MapPlan>,
+    // the measure of the queries
+    kind: MeasureKind,
     // how many places the number list has that an image is opened with
-    places: u32,
+    numbers: u32,
+    lengths: Lengths,
 }
 
 impl<'a> Session<'a> {
@@ -40,7 +41,12 @@ impl<'a> Session<'a> {
             heap,
             list: LabelList::new(heap),
             plan: None,
-            places: 1536,
+            kind: MeasureKind::Straight,
+            numbers: 1536,
+            lengths: Lengths {
+                answers: None,
+                work: None,
+            },
         }
     }
 
@@ -59,9 +65,7 @@ impl<'a> Session<'a> {
     }
 
     // What the command prints, or why it has no result.
-    fn obey(&mut self, command: Command<'_>) -> Result<String, Failure>
-        requires { IsObeyed command }
-    {
+    fn obey(&mut self, command: Command<'_>) -> Result<String, Failure> {
         match command {
             Command::Label { number, x, y } => self.label(number, x, y),
             Command::Plain { x, y, k } => self.plain(x, y, k),
@@ -76,11 +80,9 @@ impl<'a> Session<'a> {
             Command::Image { path } => self.image(path),
             Command::Labels => self.labels(),
             Command::Nodes => self.nodes(),
-            Command::Limit {
-                list: WorkList::Numbers,
-                places,
-            } => self.limit(places),
-            _ => unreachable!(),
+            Command::Ask(query) => self.ask(query),
+            Command::Measure { kind } => self.measure(kind),
+            Command::Limit { list, places } => self.limit(list, places.min(MOST_PLACES)),
         }
     }
 
@@ -124,7 +126,7 @@ impl<'a> Session<'a> {
             return Ok(format!(in heap; "cannot read {path}")?);
         };
         let mut store = ImageStore::new(heap)?;
-        let mut numbers = vec![in heap; 0; self.places as usize]?;
+        let mut numbers = vec![in heap; 0; self.numbers as usize]?;
         store.open_image(bytes.as_slice(), numbers.as_mut_slice())?;
         self.take_plan(Plan::Image(store))
     }
@@ -143,9 +145,32 @@ impl<'a> Session<'a> {
         }
     }
 
-    // Sets how many places the number list has.
-    fn limit(&mut self, places: u32) -> Result<String, Failure> {
-        self.places = places.min(MOST_PLACES);
+    // What a query over the plan at hand answers.
+    fn ask(&mut self, query: Query) -> Result<String, Failure> {
+        let (heap, lengths) = (self.heap, self.lengths);
+        match &mut self.plan {
+            Some(plan) => match self.kind {
+                MeasureKind::Straight => answer(heap, plan, &Straight, lengths, query),
+                MeasureKind::Street => answer(heap, plan, &Street, lengths, query),
+                MeasureKind::Tile => answer(heap, plan, &Tile, lengths, query),
+            },
+            None => self.say("no plan is at hand"),
+        }
+    }
+
+    // Sets the measure of the queries.
+    fn measure(&mut self, kind: MeasureKind) -> Result<String, Failure> {
+        self.kind = kind;
+        self.say("ok")
+    }
+
+    // Sets how many places a list has.
+    fn limit(&mut self, list: WorkList, places: u32) -> Result<String, Failure> {
+        match list {
+            WorkList::Numbers => self.numbers = places,
+            WorkList::Answers => self.lengths.answers = Some(places),
+            WorkList::Work => self.lengths.work = Some(places),
+        }
         self.say("ok")
     }
 }

@@ -5,7 +5,8 @@ use Rattle.std.specs.Int.{saturate_to_bits}
 use Rattle.std.specs.Str.Parse.{IsNumeral, without_leading_sign}
 use Rattle.std.specs.List.{AllByRecursion}
 use Rattle.script.specs.declared.command.Command.{Command}
-use Rattle.script.specs.declared.command.Command.TheVariants.{Label, Plain, Grid, Image, Labels, Nodes, Nearest, Mutual, Linked, Links, Measure, Limit}
+use Rattle.script.specs.declared.command.Command.TheVariants.{Label, Plain, Grid, Image, Labels, Nodes, Ask, Measure, Limit}
+use Rattle.script.specs.declared.command.Query.TheVariants.{Nearest, Mutual, Linked, Links}
 use Rattle.script.specs.declared.command.MeasureKind.{MeasureKind}
 use Rattle.script.specs.declared.command.MeasureKind.TheVariants.{Straight, Street, Tile}
 use Rattle.script.specs.declared.command.WorkList.{WorkList}
@@ -62,16 +63,16 @@ abbrev pub grid_of : List ℤ → Command
 grid_of ns = Grid (count ns 0) (count ns 1) (count ns 2) (coordinate ns 3) (coordinate ns 4) (count ns 5)
 
 abbrev pub linked_of : List ℤ → Command
-linked_of ns = Linked (count ns 0) (count ns 1) (count ns 2)
+linked_of ns = Ask (Linked (count ns 0) (count ns 1) (count ns 2))
 
 abbrev pub links_of : List ℤ → Command
-links_of ns = Links (count ns 0) (count ns 1)
+links_of ns = Ask (Links (count ns 0) (count ns 1))
 
 abbrev pub nearest_of : List (Bor (List ℕ)) → Command
-nearest_of ws = Nearest (coordinate (numbers_of (take 3 ws)) 0) (coordinate (numbers_of (take 3 ws)) 1) (count (numbers_of (take 3 ws)) 2) (own_of (drop 3 ws))
+nearest_of ws = Ask (Nearest (coordinate (numbers_of (take 3 ws)) 0) (coordinate (numbers_of (take 3 ws)) 1) (count (numbers_of (take 3 ws)) 2) (own_of (drop 3 ws)))
 
 abbrev pub mutual_of : List (Bor (List ℕ)) → Command
-mutual_of ws = Mutual (coordinate (numbers_of (take 4 ws)) 0) (coordinate (numbers_of (take 4 ws)) 1) (count (numbers_of (take 4 ws)) 2) (count (numbers_of (take 4 ws)) 3) (own_of (drop 4 ws))
+mutual_of ws = Ask (Mutual (coordinate (numbers_of (take 4 ws)) 0) (coordinate (numbers_of (take 4 ws)) 1) (count (numbers_of (take 4 ws)) 2) (count (numbers_of (take 4 ws)) 3) (own_of (drop 4 ws)))
 
 -- the first word
 abbrev pub name_of : List (Bor (List ℕ)) → List ℕ
@@ -116,10 +117,10 @@ word_of (Grid r c s x y n) = codes "lattice"
 word_of (Image p) = codes "image"
 word_of Labels = codes "labels"
 word_of Nodes = codes "nodes"
-word_of (Nearest x y k own) = codes "nearest"
-word_of (Mutual x y k l own) = codes "mutual"
-word_of (Linked n k l) = codes "linked"
-word_of (Links k l) = codes "links"
+word_of (Ask (Nearest x y k own)) = codes "nearest"
+word_of (Ask (Mutual x y k l own)) = codes "mutual"
+word_of (Ask (Linked n k l)) = codes "linked"
+word_of (Ask (Links k l)) = codes "links"
 word_of (Measure k) = codes "measure"
 word_of (Limit l n) = codes "limit"
 
@@ -131,10 +132,10 @@ Behind ws (Grid r c s x y n) = Wholes 6 ws × (Grid r c s x y n ≡ grid_of (num
 Behind ws (Image p) = Some (Image p) ≡ image_of ws
 Behind ws Labels = length ws ≡ 0
 Behind ws Nodes = length ws ≡ 0
-Behind ws (Nearest x y k own) = Owned 3 ws × (Nearest x y k own ≡ nearest_of ws)
-Behind ws (Mutual x y k l own) = Owned 4 ws × (Mutual x y k l own ≡ mutual_of ws)
-Behind ws (Linked n k l) = Wholes 3 ws × (Linked n k l ≡ linked_of (numbers_of ws))
-Behind ws (Links k l) = Wholes 2 ws × (Links k l ≡ links_of (numbers_of ws))
+Behind ws (Ask (Nearest x y k own)) = Owned 3 ws × (Ask (Nearest x y k own) ≡ nearest_of ws)
+Behind ws (Ask (Mutual x y k l own)) = Owned 4 ws × (Ask (Mutual x y k l own) ≡ mutual_of ws)
+Behind ws (Ask (Linked n k l)) = Wholes 3 ws × (Ask (Linked n k l) ≡ linked_of (numbers_of ws))
+Behind ws (Ask (Links k l)) = Wholes 2 ws × (Ask (Links k l) ≡ links_of (numbers_of ws))
 Behind ws (Measure k) = Measured ws (Measure k)
 Behind ws (Limit l n) = Limited ws (Limit l n)
 

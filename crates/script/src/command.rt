@@ -75,6 +75,37 @@ impl FromStr for WorkList {
     }
 }
 
+// What a query asks.
+#[derive(Clone, Copy, Debug, PartialEq, Eq)]
+pub enum Query {
+    // Lists the labels among the `k` nearest to a place, which may be that of the label `own`.
+    Nearest {
+        x: i32,
+        y: i32,
+        k: u32,
+        own: Option<u32>,
+    },
+    // Lists the labels among the `k1` nearest to a place that have it among their `k2` nearest.
+    Mutual {
+        x: i32,
+        y: i32,
+        k1: u32,
+        k2: u32,
+        own: Option<u32>,
+    },
+    // Lists the labels that are linked to a label.
+    Linked {
+        number: u32,
+        k1: u32,
+        k2: u32,
+    },
+    // Lists the links of all labels.
+    Links {
+        k1: u32,
+        k2: u32,
+    },
+}
+
 // What a line of a script asks for.
 #[derive(Clone, Copy, Debug, PartialEq, Eq)]
 pub enum Command<'a> {
@@ -107,32 +138,8 @@ pub enum Command<'a> {
     Labels,
     // Lists the nodes of the plan at hand.
     Nodes,
-    // Lists the labels among the `k` nearest to a place, which may be that of the label `own`.
-    Nearest {
-        x: i32,
-        y: i32,
-        k: u32,
-        own: Option<u32>,
-    },
-    // Lists the labels among the `k1` nearest to a place that have it among their `k2` nearest.
-    Mutual {
-        x: i32,
-        y: i32,
-        k1: u32,
-        k2: u32,
-        own: Option<u32>,
-    },
-    // Lists the labels that are linked to a label.
-    Linked {
-        number: u32,
-        k1: u32,
-        k2: u32,
-    },
-    // Lists the links of all labels.
-    Links {
-        k1: u32,
-        k2: u32,
-    },
+    // Asks who is near to whom.
+    Ask(Query),
     // Sets the measure of the queries.
     Measure {
         kind: MeasureKind,
@@ -234,12 +241,12 @@ fn nearest<'a>(words: &[&'a str]) -> Option<Command<'a>>
     ensures { SomeIff result (Owned 3 words.now) (nearest_of words.now) }
 {
     let ([x, y, k], own) = owned::<3>(words)?;
-    Some(Command::Nearest {
+    Some(Command::Ask(Query::Nearest {
         x: to_i32(x),
         y: to_i32(y),
         k: to_u32(k),
         own,
-    })
+    }))
 }
 
 // The words after `mutual`: X Y K1 K2 [own NUMBER].
@@ -247,13 +254,13 @@ fn mutual<'a>(words: &[&'a str]) -> Option<Command<'a>>
     ensures { SomeIff result (Owned 4 words.now) (mutual_of words.now) }
 {
     let ([x, y, k1, k2], own) = owned::<4>(words)?;
-    Some(Command::Mutual {
+    Some(Command::Ask(Query::Mutual {
         x: to_i32(x),
         y: to_i32(y),
         k1: to_u32(k1),
         k2: to_u32(k2),
         own,
-    })
+    }))
 }
 
 // The words after `linked`: NUMBER K1 K2.
@@ -261,11 +268,11 @@ fn linked<'a>(words: &[&'a str]) -> Option<Command<'a>>
     ensures { SomeIff result (Wholes 3 words.now) (linked_of (numbers_of words.now)) }
 {
     let [number, k1, k2] = wholes::<3>(words)?;
-    Some(Command::Linked {
+    Some(Command::Ask(Query::Linked {
         number: to_u32(number),
         k1: to_u32(k1),
         k2: to_u32(k2),
-    })
+    }))
 }
 
 // The words after `links`: K1 K2.
@@ -273,10 +280,10 @@ fn links<'a>(words: &[&'a str]) -> Option<Command<'a>>
     ensures { SomeIff result (Wholes 2 words.now) (links_of (numbers_of words.now)) }
 {
     let [k1, k2] = wholes::<2>(words)?;
-    Some(Command::Links {
+    Some(Command::Ask(Query::Links {
         k1: to_u32(k1),
         k2: to_u32(k2),
-    })
+    }))
 }
 
 // The word after `measure`: straight, street or tile.

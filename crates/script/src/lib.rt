@@ -5,4 +5,4 @@ pub mod command;
 mod number;
 pub mod report;
 
-pub use command::{Command, parse};
+pub use command::{Command, MeasureKind, Query, WorkList, parse};

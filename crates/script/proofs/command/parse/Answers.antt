@@ -2,7 +2,8 @@ use Rattle.std.proofs.Common.{◌≡◌, ℕ, cond, List, [], ◌∷◌, drop, S
 use Rattle.std.specs.Option.{ok_or}
 use Rattle.std.specs.Str.{bytes_eq}
 use Rattle.script.specs.declared.command.Command.{Command}
-use Rattle.script.specs.declared.command.Command.TheVariants.{Label, Plain, Grid, Image, Labels, Nodes, Nearest, Mutual, Linked, Links, Measure, Limit}
+use Rattle.script.specs.declared.command.Command.TheVariants.{Label, Plain, Grid, Image, Labels, Nodes, Ask, Measure, Limit}
+use Rattle.script.specs.declared.command.Query.TheVariants.{Nearest, Mutual, Linked, Links}
 use Rattle.script.specs.Commands.{Told, Measured, Limited, Behind, Parsed, name_of, word_of, image_of}
 use Rattle.script.proofs.Lists.{behind, named}
 use Rattle.script.proofs.command.parse.Goals as goal
@@ -21,10 +22,10 @@ says ds (Grid r c s x y n) h = tt
 says ds (Image p) h = h
 says ds Labels h = tt
 says ds Nodes h = tt
-says ds (Nearest x y k own) h = tt
-says ds (Mutual x y k l own) h = tt
-says ds (Linked n k l) h = tt
-says ds (Links k l) h = tt
+says ds (Ask (Nearest x y k own)) h = tt
+says ds (Ask (Mutual x y k l own)) h = tt
+says ds (Ask (Linked n k l)) h = tt
+says ds (Ask (Links k l)) h = tt
 says ds (Measure k) h = h
 says ds (Limit l n) h = h
 

@@ -1,0 +1,256 @@
+// Queries over a store, with lists made for each.
+ghost use Rattle.std.specs.Prelude.{◌≡◌, ◌*◌, length, take, IfOk};
+ghost use Rattle.index.specs.Table.{node_count};
+ghost use Rattle.neighbours.specs.Ranking.{ranking};
+ghost use Rattle.neighbours.specs.Scene.{work_places};
+ghost use Rattle.labelplan.specs.Asked.{lent, work_length, answer_length, NearestEnds, MutualEnds, LinkedEnds, NumberEnds};
+
+use crate::plan::labels_of;
+use geometry::{Label, Reason, Refusal};
+use index::{NodeStore, SLOTS};
+use listing::Failure;
+use measure::Measure;
+use neighbours::{Item, Told};
+use script::Query;
+use script::report::{answers_line, link_line, links_line, opened_line, push_line};
+use search::{mutual, nearest, spare_item, work_places};
+use std::alloc::{AllocError, Global};
+
+// How many places the lists have that are lent to a query: as many as it can need, unless a number is set.
+#[derive(Clone, Copy)]
+pub struct Lengths {
+    pub answers: Option<u32>,
+    pub work: Option<u32>,
+}
+
+// What an accepted query told: its answers, and how many nodes it opened.
+#[derive(Drop)]
+pub struct Answered {
+    pub numbers: Vec<u32>,
+    pub opened: u32,
+}
+
+// How long a list is that is lent: as set, or else as long as it can need to be.
+fn lent(set: Option<u32>, need: usize) -> usize
+    ensures { result ≡ lent set need }
+{
+    set.map_or(need, |places| places as usize)
+}
+
+// A work list for a query over the store.
+fn work_list<S: NodeStore, M: Measure>(
+    heap: Global,
+    store: &S,
+    measure: &M,
+    lengths: Lengths,
+) -> Result<Vec<Item<M::Distance>>, AllocError>
+    ensures { IfOk result (λ v. length v.items ≡ work_length lengths (S.table store.now)) }
+{
+    let places = lent(lengths.work, work_places(store));
+    vec![in heap; spare_item(measure); places]
+}
+
+// An answer list for a query over the store: as long as there are slots, where no length is set.
+fn answer_list<S: NodeStore>(
+    heap: Global,
+    store: &S,
+    lengths: Lengths,
+) -> Result<Vec<u32>, AllocError>
+    ensures { IfOk result (λ v. length v.items ≡ answer_length lengths (S.table store.now)) }
+{
+    let places = lent(lengths.answers, SLOTS * store.node_count());
+    vec![in heap; 0; places]
+}
+
+// The answers at the front of the list.
+fn take_front(mut numbers: Vec<u32>, told: Told) -> Answered
+    ensures numbers { result.numbers.items ≡ take told.count numbers.items }
+    ensures opened { result.opened ≡ told.opened }
+{
+    numbers.truncate(told.count);
+    Answered {
+        numbers,
+        opened: told.opened,
+    }
+}
+
+// The labels near to a place.
+pub fn nearest_to<S: NodeStore, M: Measure>(
+    heap: Global,
+    store: &mut S,
+    measure: &M,
+    lengths: Lengths,
+    x: i32,
+    y: i32,
+    own: Option<u32>,
+    k: u32,
+) -> Result<Answered, Failure>
+    ensures table { S.table store.new ≡ S.table store.old }
+    ensures ends { NearestEnds (ranking M.Distance.Ranked.precedes (M.dist measure.now) (M.bound measure.now)) (S.table store.old) lengths x y own k result }
+{
+    let mut work = work_list(heap, store, measure, lengths)?;
+    let mut answers = answer_list(heap, store, lengths)?;
+    let told = nearest(
+        store,
+        measure,
+        x,
+        y,
+        own,
+        k,
+        work.as_mut_slice(),
+        answers.as_mut_slice(),
+    )?;
+    Ok(take_front(answers, told))
+}
+
+// The labels near to a place to which the place is near in turn.
+pub fn mutual_to<S: NodeStore, M: Measure>(
+    heap: Global,
+    store: &mut S,
+    measure: &M,
+    lengths: Lengths,
+    x: i32,
+    y: i32,
+    own: Option<u32>,
+    k1: u32,
+    k2: u32,
+) -> Result<Answered, Failure>
+    ensures table { S.table store.new ≡ S.table store.old }
+    ensures ends { MutualEnds (ranking M.Distance.Ranked.precedes (M.dist measure.now) (M.bound measure.now)) (S.table store.old) lengths x y own k1 k2 result }
+{
+    let mut work = work_list(heap, store, measure, lengths)?;
+    let mut second = work_list(heap, store, measure, lengths)?;
+    let mut answers = answer_list(heap, store, lengths)?;
+    let told = mutual(
+        store,
+        measure,
+        x,
+        y,
+        own,
+        k1,
+        k2,
+        work.as_mut_slice(),
+        second.as_mut_slice(),
+        answers.as_mut_slice(),
+    )?;
+    Ok(take_front(answers, told))
+}
+
+// The labels that are linked to a label: those near to its place, and its place to them, without itself.
+fn linked_with<S: NodeStore, M: Measure>(
+    heap: Global,
+    store: &mut S,
+    measure: &M,
+    lengths: Lengths,
+    label: Label,
+    k1: u32,
+    k2: u32,
+) -> Result<Answered, Failure>
+    ensures table { S.table store.new ≡ S.table store.old }
+    ensures ends { LinkedEnds (ranking M.Distance.Ranked.precedes (M.dist measure.now) (M.bound measure.now)) (S.table store.old) lengths k1 k2 label result }
+{
+    let place = label.place();
+    let own = Some(label.number());
+    mutual_to(
+        heap,
+        store,
+        measure,
+        lengths,
+        place.x(),
+        place.y(),
+        own,
+        k1,
+        k2,
+    )
+}
+
+// The labels that are linked to the label of that number.
+fn linked_to<S: NodeStore, M: Measure>(
+    heap: Global,
+    store: &mut S,
+    measure: &M,
+    lengths: Lengths,
+    number: u32,
+    k1: u32,
+    k2: u32,
+) -> Result<Answered, Failure>
+    ensures table { S.table store.new ≡ S.table store.old }
+    ensures ends { NumberEnds (ranking M.Distance.Ranked.precedes (M.dist measure.now) (M.bound measure.now)) (S.table store.old) lengths k1 k2 number result }
+{
+    let labels = labels_of(heap, store)?;
+    let Some(label) = labels.iter().copied().find(|l| l.number() == number) else {
+        return Err(Failure::Refused(Refusal {
+            reason: Reason::NumberAbsent,
+            place: 0,
+        }));
+    };
+    linked_with(heap, store, measure, lengths, label, k1, k2)
+}
+
+// The labels of a store, by number.
+fn labels_by_number<S: NodeStore>(heap: Global, store: &mut S) -> Result<Vec<Label>, AllocError> {
+    let mut labels = labels_of(heap, store)?;
+    labels.sort_unstable();
+    Ok(labels)
+}
+
+// Adds a line for each label that is linked to a label, and gives how many there are.
+fn push_links(
+    lines: &mut String,
+    heap: Global,
+    label: Label,
+    linked: &[u32],
+) -> Result<(), AllocError> {
+    for p in linked {
+        push_line(lines, link_line(heap, *p, label.number())?.as_str())?;
+    }
+    Ok(())
+}
+
+// A line for each link, by the number of the label that is answered, and how many there are.
+fn links<S: NodeStore, M: Measure>(
+    heap: Global,
+    store: &mut S,
+    measure: &M,
+    lengths: Lengths,
+    k1: u32,
+    k2: u32,
+) -> Result<String, Failure> {
+    let mut lines = String::new(heap);
+    let mut count: usize = 0;
+    for label in labels_by_number(heap, store)? {
+        let linked = linked_with(heap, store, measure, lengths, label, k1, k2)?;
+        push_links(&mut lines, heap, label, linked.numbers.as_slice())?;
+        count = count.saturating_add(linked.numbers.len());
+    }
+    push_line(&mut lines, links_line(heap, count)?.as_str())?;
+    Ok(lines)
+}
+
+// The answers in a line, and the openings in another.
+fn lines_of(heap: Global, answered: &Answered) -> Result<String, AllocError> {
+    let mut lines = answers_line(heap, answered.numbers.as_slice())?;
+    push_line(&mut lines, opened_line(heap, answered.opened)?.as_str())?;
+    Ok(lines)
+}
+
+// What a query prints.
+pub fn answer<S: NodeStore, M: Measure>(
+    heap: Global,
+    store: &mut S,
+    measure: &M,
+    lengths: Lengths,
+    query: Query,
+) -> Result<String, Failure> {
+    let answered = match query {
+        Query::Nearest { x, y, k, own } => nearest_to(heap, store, measure, lengths, x, y, own, k)?,
+        Query::Mutual { x, y, k1, k2, own } => mutual_to(
+            heap, store, measure, lengths, x, y, own, k1, k2,
+        )?,
+        Query::Linked { number, k1, k2 } => linked_to(
+            heap, store, measure, lengths, number, k1, k2,
+        )?,
+        Query::Links { k1, k2 } => return links(heap, store, measure, lengths, k1, k2),
+    };
+    Ok(lines_of(heap, &answered)?)
+}
