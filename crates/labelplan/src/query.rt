@@ -1,5 +1,6 @@
 // Queries over a store, with lists made for each.
-ghost use Rattle.std.specs.Prelude.{◌≡◌, ◌*◌, length, take, IfOk};
+ghost use Rattle.std.specs.Prelude.{◌≡◌, ◌*◌, length, take, IfOk, ◌==◌};
+ghost use Rattle.std.specs.List.{find};
 ghost use Rattle.index.specs.Table.{node_count};
 ghost use Rattle.neighbours.specs.Ranking.{ranking};
 ghost use Rattle.neighbours.specs.Scene.{work_places};
@@ -164,6 +165,13 @@ fn linked_with<S: NodeStore, M: Measure>(
     )
 }
 
+// The label of that number, if there is one.
+fn labelled(labels: &[Label], number: u32) -> Option<Label>
+    ensures { result ≡ find (λ q. q.number == number) labels.now }
+{
+    labels.iter().copied().find(|l| l.number() == number)
+}
+
 // The labels that are linked to the label of that number.
 fn linked_to<S: NodeStore, M: Measure>(
     heap: Global,
@@ -178,7 +186,7 @@ fn linked_to<S: NodeStore, M: Measure>(
     ensures ends { NumberEnds (ranking M.Distance.Ranked.precedes (M.dist measure.now) (M.bound measure.now)) (S.table store.old) lengths k1 k2 number result }
 {
     let labels = labels_of(heap, store)?;
-    let Some(label) = labels.iter().copied().find(|l| l.number() == number) else {
+    let Some(label) = labelled(labels.as_slice(), number) else {
         return Err(Failure::Refused(Refusal {
             reason: Reason::NumberAbsent,
             place: 0,
