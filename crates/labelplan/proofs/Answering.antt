@@ -1,12 +1,20 @@
 -- How an accepted query ends, by its answer list.
-use Rattle.std.proofs.Common.{◌≡◌, ℕ, ◌≤◌, Bool, true, false, List, ◌++◌, length, take, drop, Some, None, Ok, Option, sym, ap, ◌∙◌, ⊎_elim, arith}
+use Rattle.std.proofs.Common.{◌≡◌, ℕ, ◌≤◌, Bool, true, false, List, ◌==◌, Result, ◌++◌, length, take, drop, Some, None, Ok, Option, sym, ap, ◌∙◌, ⊎_elim, arith}
 use Rattle.std.specs.Prelude.{nat_le}
 use Rattle.std.proofs.lemmas.Bool.{cases_Bool, cond-true, cond-false}
 use Rattle.std.proofs.lemmas.Bool.Decides.{nat_tests}
 use Rattle.std.proofs.lemmas.List.{take_all, take-append-le}
+use Rattle.std.specs.List.{find}
+use Rattle.geometry.specs.declared.label.Label.{Label}
 use Rattle.geometry.specs.declared.refusal.Refusal.{Refusal}
+use Rattle.listing.specs.declared.failure.Failure.{Failure}
+use Rattle.index.specs.Table.{Table, plan}
+use Rattle.neighbours.specs.Ranking.{Ranking}
 use Rattle.neighbours.specs.declared.told.Told.{Told}
 use Rattle.neighbours.specs.Queries.{outcome, filled}
+use Rattle.labelplan.specs.declared.query.Lengths.{Lengths}
+use Rattle.labelplan.specs.declared.query.Answered.{Answered}
+use Rattle.labelplan.specs.Asked.{LinkedEnds, NumberEnds}
 
 -- the answers are at the front of the list, and the query told how many they are and how many nodes it opened
 told-all : (e : Option Refusal) (ns before after items : List ℕ) (opened : ℕ) (t : Told) → Ok t ≡ outcome e ns opened (length before) → after ≡ filled e ns before → items ≡ take t.count after
@@ -35,3 +43,10 @@ ended e ns before after items opened v w u places t h f a p q r =
 -- a list of that length has all that was written over it
 pub written-back : (after before : List ℕ) (n : ℕ) → length after ≡ n → take n (after ++ drop (length after) before) ≡ after
 written-back after before n h = take-append-le n after (drop (length after) before) (omega arith) ∙ take_all n after (omega arith)
+
+-- a label that is found among the labels of the plan ends the query for its number
+pub number-found : (near : Ranking) (t : Table) (l : Lengths) (k1 k2 n : ℕ) (labels : List Label) (o : Option Label) (q : Label) (r : Result Answered Failure) → o ≡ find (λ q. q.number == n) labels → labels ≡ plan t → o ≡ Some q
+    → LinkedEnds near t l k1 k2 q r → NumberEnds near t l k1 k2 n r
+number-found near t l k1 k2 n labels o q r a b is h =
+    let there : find (λ q. q.number == n) (plan t) ≡ Some q = sym (a ∙ ap (λ labels. find (λ q. q.number == n) labels) b) ∙ is in
+    rw (there, NumberEnds) h
