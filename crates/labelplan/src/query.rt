@@ -1,10 +1,12 @@
 // Queries over a store, with lists made for each.
-ghost use Rattle.std.specs.Prelude.{◌≡◌, ◌*◌, length, take, IfOk, ◌==◌};
+ghost use Rattle.std.specs.Prelude.{◌≡◌, ◌*◌, length, take, fold, IfOk, OnOk, string_bytes, ◌==◌};
 ghost use Rattle.std.specs.List.{find};
-ghost use Rattle.index.specs.Table.{node_count};
+ghost use Rattle.std.specs.List.Sorted.{IsPermutation};
+ghost use Rattle.index.specs.Table.{node_count, plan};
 ghost use Rattle.neighbours.specs.Ranking.{ranking};
 ghost use Rattle.neighbours.specs.Scene.{work_places};
 ghost use Rattle.labelplan.specs.Asked.{lent, work_length, answer_length, NearestEnds, MutualEnds, LinkedEnds, NumberEnds};
+ghost use Rattle.script.specs.Report.{line_after, answers_line, opened_line, link_line};
 
 use crate::plan::labels_of;
 use geometry::{Label, Reason, Refusal};
@@ -196,7 +198,10 @@ fn linked_to<S: NodeStore, M: Measure>(
 }
 
 // The labels of a store, by number.
-fn labels_by_number<S: NodeStore>(heap: Global, store: &mut S) -> Result<Vec<Label>, AllocError> {
+fn labels_by_number<S: NodeStore>(heap: Global, store: &mut S) -> Result<Vec<Label>, AllocError>
+    ensures table { S.table store.new ≡ S.table store.old }
+    ensures labels { IfOk result (λ labels. IsPermutation (plan (S.table store.old)) labels.items) }
+{
     let mut labels = labels_of(heap, store)?;
     labels.sort_unstable();
     Ok(labels)
@@ -208,7 +213,9 @@ fn push_links(
     heap: Global,
     label: Label,
     linked: &[u32],
-) -> Result<(), AllocError> {
+) -> Result<(), AllocError>
+    ensures { OnOk result (string_bytes lines.new ≡ fold (λ bs p. line_after bs (link_line p label.number)) (string_bytes lines.old) linked.now) }
+{
     for p in linked {
         push_line(lines, link_line(heap, *p, label.number())?.as_str())?;
     }
@@ -236,7 +243,9 @@ fn links<S: NodeStore, M: Measure>(
 }
 
 // The answers in a line, and the openings in another.
-fn lines_of(heap: Global, answered: &Answered) -> Result<String, AllocError> {
+fn lines_of(heap: Global, answered: &Answered) -> Result<String, AllocError>
+    ensures { IfOk result (λ s. string_bytes s ≡ line_after (answers_line answered.now.numbers.items) (opened_line answered.now.opened)) }
+{
     let mut lines = answers_line(heap, answered.numbers.as_slice())?;
     push_line(&mut lines, opened_line(heap, answered.opened)?.as_str())?;
     Ok(lines)
