@@ -1,5 +1,5 @@
 -- How an accepted query ends, by its answer list.
-use Rattle.std.proofs.Common.{◌≡◌, ℕ, ◌≤◌, Bool, true, false, List, ◌==◌, Result, ◌++◌, length, take, drop, Some, None, Ok, Option, sym, ap, ◌∙◌, ⊎_elim, arith}
+use Rattle.std.proofs.Common.{◌≡◌, ℕ, ◌≤◌, true, false, List, ◌==◌, Result, ◌++◌, length, take, drop, Some, None, Ok, Option, sym, ap, ◌∙◌, ⊎_elim, arith}
 use Rattle.std.specs.Prelude.{nat_le}
 use Rattle.std.proofs.lemmas.Bool.{cases_Bool, cond-true, cond-false}
 use Rattle.std.proofs.lemmas.Bool.Decides.{nat_tests}
@@ -26,7 +26,7 @@ told-all None ns before after items opened t h f a = ⊎_elim
     let count : t.count ≡ length ns = cc in
     let room : length ns ≤ length before = grind (arith, nat_tests) in
     let front : items ≡ ns = a ∙ (λ i. take (count i) (f i)) ∙ ap (λ l. take (length ns) (l ++ drop (length ns) before)) (take_all (length before) ns room)
-        ∙ take-append-le (length ns) ns (drop (length ns) before) (omega arith) ∙ take_all (length ns) ns (omega arith) in
+    ∙ take-append-le (length ns) ns (drop (length ns) before) (omega arith) ∙ take_all (length ns) ns (omega arith) in
     (sym h ∙ (λ i. Ok (record { count = (count ∙ ap length (sym front)) i; opened = t.opened })), front))
     (λ (full : nat_le (length ns) (length before) ≡ false).
     let told = h ∙ cond-false (nat_le (length ns) (length before)) _ _ full in

@@ -1,5 +1,5 @@
 -- How the program's queries end.
-use Rattle.std.specs.Prelude.{◌≡◌, ℕ, ◌*◌, Bool, List, length, ℤ, Some, None, Ok, Err, Option, Result, ◌==◌}
+use Rattle.std.specs.Prelude.{◌≡◌, ℕ, ◌*◌, List, length, ℤ, Some, None, Ok, Err, Option, Result, ◌==◌}
 use Rattle.std.specs.List.{find}
 use Rattle.geometry.specs.declared.label.Label.{Label}
 use Rattle.geometry.specs.declared.refusal.Refusal.{Refusal}

@@ -1,6 +1,5 @@
 use Rattle.std.proofs.Common.{◌≡◌, ◌∙◌}
 use Rattle.neighbours.specs.Ranking.{ranking}
-use Rattle.labelplan.specs.Asked.{LinkedEnds, NumberEnds}
 use Rattle.labelplan.proofs.Answering.{number-found}
 use Rattle.labelplan.proofs.query.linked_to.Goals as goal
 

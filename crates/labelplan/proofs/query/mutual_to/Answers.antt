@@ -15,4 +15,4 @@ returns-clause-ends g c =
     let room = ap length c.as_mut_slice-3.ensures.value ∙ c.in_ok-answers.ensures in
     let items = c.take_front.ensures.numbers ∙ ap (take t.count) (written-back c.mutual.new.answers list.items list.len (omega arith)) in
     rw c.take_front.ensures.opened (ended (λ v w. refused_mutual (g.S.NodeStore.table c.args.store.now) c.args.x c.args.y c.args.k1 c.args.k2 v w) _ c.as_mut_slice-3.result.now c.mutual.new.answers _ _ _ _ _ _ t
-        (simp to_z-of_z at c.in_ok-told.ensures.told) (simp to_z-of_z at c.in_ok-told.ensures.answers) items work second room)
+    (simp to_z-of_z at c.in_ok-told.ensures.told) (simp to_z-of_z at c.in_ok-told.ensures.answers) items work second room)
