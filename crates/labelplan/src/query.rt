@@ -230,7 +230,9 @@ fn links<S: NodeStore, M: Measure>(
     lengths: Lengths,
     k1: u32,
     k2: u32,
-) -> Result<String, Failure> {
+) -> Result<String, Failure>
+    ensures table { S.table store.new ≡ S.table store.old }
+{
     let mut lines = String::new(heap);
     let mut count: usize = 0;
     for label in labels_by_number(heap, store)? {
@@ -258,7 +260,9 @@ pub fn answer<S: NodeStore, M: Measure>(
     measure: &M,
     lengths: Lengths,
     query: Query,
-) -> Result<String, Failure> {
+) -> Result<String, Failure>
+    ensures table { S.table store.new ≡ S.table store.old }
+{
     let answered = match query {
         Query::Nearest { x, y, k, own } => nearest_to(heap, store, measure, lengths, x, y, own, k)?,
         Query::Mutual { x, y, k1, k2, own } => mutual_to(
