@@ -1,4 +1,4 @@
-use Rattle.std.proofs.Common.{◌≡◌, ◌*◌}
+use Rattle.std.proofs.Common.{◌≡◌}
 use Rattle.labelplan.proofs.query.links.Given as goal
 
 abbrev pub invariant-loop-label : goal.invariant-loop-label
