@@ -40,29 +40,12 @@ fn lent(set: Option<u32>, need: usize) -> usize
     set.map_or(need, |places| places as usize)
 }
 
-// A work list for a query over the store.
-fn work_list<S: NodeStore, M: Measure>(
-    heap: Global,
-    store: &S,
-    measure: &M,
-    lengths: Lengths,
-) -> Result<Vec<Item<M::Distance>>, AllocError>
-    ensures { IfOk result (λ v. length v.items ≡ work_length lengths (S.table store.now)) }
-{
-    let places = lent(lengths.work, work_places(store));
-    vec![in heap; spare_item(measure); places]
-}
-
-// An answer list for a query over the store: as long as there are slots, where no length is set.
-fn answer_list<S: NodeStore>(
-    heap: Global,
-    store: &S,
-    lengths: Lengths,
-) -> Result<Vec<u32>, AllocError>
-    ensures { IfOk result (λ v. length v.items ≡ answer_length lengths (S.table store.now)) }
-{
-    let places = lent(lengths.answers, SLOTS * store.node_count());
-    vec![in heap; 0; places]
+// How a query is made: where its lists come from, by which measure it goes, and how long the lists are.
+#[derive(Drop)]
+pub struct Terms<'a, M> {
+    pub heap: Global,
+    pub measure: &'a M,
+    pub lengths: Lengths,
 }
 
 // The answers at the front of the list.
@@ -77,124 +60,11 @@ fn take_front(mut numbers: Vec<u32>, told: Told) -> Answered
     }
 }
 
-// The labels near to a place.
-pub fn nearest_to<S: NodeStore, M: Measure>(
-    heap: Global,
-    store: &mut S,
-    measure: &M,
-    lengths: Lengths,
-    x: i32,
-    y: i32,
-    own: Option<u32>,
-    k: u32,
-) -> Result<Answered, Failure>
-    ensures table { S.table store.new ≡ S.table store.old }
-    ensures ends { NearestEnds (ranking M.Distance.Ranked.precedes (M.dist measure.now) (M.bound measure.now)) (S.table store.old) lengths x y own k result }
-{
-    let mut work = work_list(heap, store, measure, lengths)?;
-    let mut answers = answer_list(heap, store, lengths)?;
-    let told = nearest(
-        store,
-        measure,
-        x,
-        y,
-        own,
-        k,
-        work.as_mut_slice(),
-        answers.as_mut_slice(),
-    )?;
-    Ok(take_front(answers, told))
-}
-
-// The labels near to a place to which the place is near in turn.
-pub fn mutual_to<S: NodeStore, M: Measure>(
-    heap: Global,
-    store: &mut S,
-    measure: &M,
-    lengths: Lengths,
-    x: i32,
-    y: i32,
-    own: Option<u32>,
-    k1: u32,
-    k2: u32,
-) -> Result<Answered, Failure>
-    ensures table { S.table store.new ≡ S.table store.old }
-    ensures ends { MutualEnds (ranking M.Distance.Ranked.precedes (M.dist measure.now) (M.bound measure.now)) (S.table store.old) lengths x y own k1 k2 result }
-{
-    let mut work = work_list(heap, store, measure, lengths)?;
-    let mut second = work_list(heap, store, measure, lengths)?;
-    let mut answers = answer_list(heap, store, lengths)?;
-    let told = mutual(
-        store,
-        measure,
-        x,
-        y,
-        own,
-        k1,
-        k2,
-        work.as_mut_slice(),
-        second.as_mut_slice(),
-        answers.as_mut_slice(),
-    )?;
-    Ok(take_front(answers, told))
-}
-
-// The labels that are linked to a label: those near to its place, and its place to them, without itself.
-fn linked_with<S: NodeStore, M: Measure>(
-    heap: Global,
-    store: &mut S,
-    measure: &M,
-    lengths: Lengths,
-    label: Label,
-    k1: u32,
-    k2: u32,
-) -> Result<Answered, Failure>
-    ensures table { S.table store.new ≡ S.table store.old }
-    ensures ends { LinkedEnds (ranking M.Distance.Ranked.precedes (M.dist measure.now) (M.bound measure.now)) (S.table store.old) lengths k1 k2 label result }
-{
-    let place = label.place();
-    let own = Some(label.number());
-    mutual_to(
-        heap,
-        store,
-        measure,
-        lengths,
-        place.x(),
-        place.y(),
-        own,
-        k1,
-        k2,
-    )
-}
-
 // The label of that number, if there is one.
 fn labelled(labels: &[Label], number: u32) -> Option<Label>
     ensures { result ≡ find (λ q. q.number == number) labels.now }
 {
     labels.iter().copied().find(|l| l.number() == number)
-}
-
-// The labels that are linked to the label of that number.
-fn linked_to<S: NodeStore, M: Measure>(
-    heap: Global,
-    store: &mut S,
-    measure: &M,
-    lengths: Lengths,
-    number: u32,
-    k1: u32,
-    k2: u32,
-) -> Result<Answered, Failure>
-    ensures table { S.table store.new ≡ S.table store.old }
-    ensures ends { NumberEnds (ranking M.Distance.Ranked.precedes (M.dist measure.now) (M.bound measure.now)) (S.table store.old) lengths k1 k2 number result }
-{
-    let labels = labels_of(heap, store)?;
-    let Some(label) = labelled(labels.as_slice(), number) else {
-        return Err(Failure::Refused(Refusal {
-            reason: Reason::NumberAbsent,
-            place: 0,
-        }));
-    };
-    linked_with(heap, store, measure, lengths, label, k1, k2)
 }
 
 // The labels of a store, by number.
@@ -207,7 +77,7 @@ fn labels_by_number<S: NodeStore>(heap: Global, store: &mut S) -> Result<Vec<Lab
     Ok(labels)
 }
 
-// Adds a line for each label that is linked to a label, and gives how many there are.
+// Adds a line for each label that is linked to a label.
 fn push_links(
     lines: &mut String,
     heap: Global,
@@ -222,28 +92,6 @@ fn push_links(
     Ok(())
 }
 
-// A line for each link, by the number of the label that is answered, and how many there are.
-fn links<S: NodeStore, M: Measure>(
-    heap: Global,
-    store: &mut S,
-    measure: &M,
-    lengths: Lengths,
-    k1: u32,
-    k2: u32,
-) -> Result<String, Failure>
-    ensures table { S.table store.new ≡ S.table store.old }
-{
-    let mut lines = String::new(heap);
-    let mut count: usize = 0;
-    for label in labels_by_number(heap, store)? {
-        let linked = linked_with(heap, store, measure, lengths, label, k1, k2)?;
-        push_links(&mut lines, heap, label, linked.numbers.as_slice())?;
-        count = count.saturating_add(linked.numbers.len());
-    }
-    push_line(&mut lines, links_line(heap, count)?.as_str())?;
-    Ok(lines)
-}
-
 // The answers in a line, and the openings in another.
 fn lines_of(heap: Global, answered: &Answered) -> Result<String, AllocError>
     ensures { IfOk result (λ s. string_bytes s ≡ line_after (answers_line answered.now.numbers.items) (opened_line answered.now.opened)) }
@@ -253,25 +101,143 @@ fn lines_of(heap: Global, answered: &Answered) -> Result<String, AllocError>
     Ok(lines)
 }
 
-// What a query prints.
-pub fn answer<S: NodeStore, M: Measure>(
-    heap: Global,
-    store: &mut S,
-    measure: &M,
-    lengths: Lengths,
-    query: Query,
-) -> Result<String, Failure>
-    ensures table { S.table store.new ≡ S.table store.old }
-{
-    let answered = match query {
-        Query::Nearest { x, y, k, own } => nearest_to(heap, store, measure, lengths, x, y, own, k)?,
-        Query::Mutual { x, y, k1, k2, own } => mutual_to(
-            heap, store, measure, lengths, x, y, own, k1, k2,
-        )?,
-        Query::Linked { number, k1, k2 } => linked_to(
-            heap, store, measure, lengths, number, k1, k2,
-        )?,
-        Query::Links { k1, k2 } => return links(heap, store, measure, lengths, k1, k2),
-    };
-    Ok(lines_of(heap, &answered)?)
+impl<M: Measure> Terms<'_, M> {
+    // A work list for a query over the store.
+    fn work_list<S: NodeStore>(&self, store: &S) -> Result<Vec<Item<M::Distance>>, AllocError>
+        ensures { IfOk result (λ v. length v.items ≡ work_length self.now.lengths (S.table store.now)) }
+    {
+        let places = lent(self.lengths.work, work_places(store));
+        vec![in self.heap; spare_item(self.measure); places]
+    }
+
+    // An answer list for a query over the store: as long as there are slots, where no length is set.
+    fn answer_list<S: NodeStore>(&self, store: &S) -> Result<Vec<u32>, AllocError>
+        ensures { IfOk result (λ v. length v.items ≡ answer_length self.now.lengths (S.table store.now)) }
+    {
+        let places = lent(self.lengths.answers, SLOTS * store.node_count());
+        vec![in self.heap; 0; places]
+    }
+
+    // The labels near to a place.
+    pub fn nearest_to<S: NodeStore>(
+        &self,
+        store: &mut S,
+        x: i32,
+        y: i32,
+        own: Option<u32>,
+        k: u32,
+    ) -> Result<Answered, Failure>
+        ensures table { S.table store.new ≡ S.table store.old }
+        ensures ends { NearestEnds (ranking M.Distance.Ranked.precedes (M.dist self.now.measure.now) (M.bound self.now.measure.now)) (S.table store.old) self.now.lengths x y own k result }
+    {
+        let mut work = self.work_list(store)?;
+        let mut answers = self.answer_list(store)?;
+        let told = nearest(
+            store,
+            self.measure,
+            x,
+            y,
+            own,
+            k,
+            work.as_mut_slice(),
+            answers.as_mut_slice(),
+        )?;
+        Ok(take_front(answers, told))
+    }
+
+    // The labels near to a place to which the place is near in turn.
+    pub fn mutual_to<S: NodeStore>(
+        &self,
+        store: &mut S,
+        x: i32,
+        y: i32,
+        own: Option<u32>,
+        k1: u32,
+        k2: u32,
+    ) -> Result<Answered, Failure>
+        ensures table { S.table store.new ≡ S.table store.old }
+        ensures ends { MutualEnds (ranking M.Distance.Ranked.precedes (M.dist self.now.measure.now) (M.bound self.now.measure.now)) (S.table store.old) self.now.lengths x y own k1 k2 result }
+    {
+        let mut work = self.work_list(store)?;
+        let mut second = self.work_list(store)?;
+        let mut answers = self.answer_list(store)?;
+        let told = mutual(
+            store,
+            self.measure,
+            x,
+            y,
+            own,
+            k1,
+            k2,
+            work.as_mut_slice(),
+            second.as_mut_slice(),
+            answers.as_mut_slice(),
+        )?;
+        Ok(take_front(answers, told))
+    }
+
+    // The labels that are linked to a label: those near to its place, and its place to them, without itself.
+    fn linked_with<S: NodeStore>(
+        &self,
+        store: &mut S,
+        label: Label,
+        k1: u32,
+        k2: u32,
+    ) -> Result<Answered, Failure>
+        ensures table { S.table store.new ≡ S.table store.old }
+        ensures ends { LinkedEnds (ranking M.Distance.Ranked.precedes (M.dist self.now.measure.now) (M.bound self.now.measure.now)) (S.table store.old) self.now.lengths k1 k2 label result }
+    {
+        let place = label.place();
+        let own = Some(label.number());
+        self.mutual_to(store, place.x(), place.y(), own, k1, k2)
+    }
+
+    // The labels that are linked to the label of that number.
+    fn linked_to<S: NodeStore>(
+        &self,
+        store: &mut S,
+        number: u32,
+        k1: u32,
+        k2: u32,
+    ) -> Result<Answered, Failure>
+        ensures table { S.table store.new ≡ S.table store.old }
+        ensures ends { NumberEnds (ranking M.Distance.Ranked.precedes (M.dist self.now.measure.now) (M.bound self.now.measure.now)) (S.table store.old) self.now.lengths k1 k2 number result }
+    {
+        let labels = labels_of(self.heap, store)?;
+        let Some(label) = labelled(labels.as_slice(), number) else {
+            return Err(Failure::Refused(Refusal {
+                reason: Reason::NumberAbsent,
+                place: 0,
+            }));
+        };
+        self.linked_with(store, label, k1, k2)
+    }
+
+    // A line for each link, by the number of the label that is answered, and how many there are.
+    fn links<S: NodeStore>(&self, store: &mut S, k1: u32, k2: u32) -> Result<String, Failure>
+        ensures table { S.table store.new ≡ S.table store.old }
+    {
+        let mut lines = String::new(self.heap);
+        let mut count: usize = 0;
+        for label in labels_by_number(self.heap, store)? {
+            let linked = self.linked_with(store, label, k1, k2)?;
+            push_links(&mut lines, self.heap, label, linked.numbers.as_slice())?;
+            count = count.saturating_add(linked.numbers.len());
+        }
+        push_line(&mut lines, links_line(self.heap, count)?.as_str())?;
+        Ok(lines)
+    }
+
+    // What a query prints.
+    pub fn answer<S: NodeStore>(&self, store: &mut S, query: Query) -> Result<String, Failure>
+        ensures table { S.table store.new ≡ S.table store.old }
+    {
+        let answered = match query {
+            Query::Nearest { x, y, k, own } => self.nearest_to(store, x, y, own, k)?,
+            Query::Mutual { x, y, k1, k2, own } => self.mutual_to(store, x, y, own, k1, k2)?,
+            Query::Linked { number, k1, k2 } => self.linked_to(store, number, k1, k2)?,
+            Query::Links { k1, k2 } => return self.links(store, k1, k2),
+        };
+        Ok(lines_of(self.heap, &answered)?)
+    }
 }

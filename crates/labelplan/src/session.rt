@@ -5,7 +5,7 @@ ghost use Rattle.listing.specs.Neighbours.{listing};
 ghost use Rattle.script.specs.Report.{entry_of};
 
 use crate::plan::{MapPlan, Plan, labels_of, nodes_of};
-use crate::query::{Lengths, answer};
+use crate::query::{Lengths, Terms};
 use geometry::Label;
 use image::ImageStore;
 use lattice::Lattice;
@@ -150,9 +150,24 @@ impl<'a> Session<'a> {
         let (heap, lengths) = (self.heap, self.lengths);
         match &mut self.plan {
             Some(plan) => match self.kind {
-                MeasureKind::Straight => answer(heap, plan, &Straight, lengths, query),
-                MeasureKind::Street => answer(heap, plan, &Street, lengths, query),
-                MeasureKind::Tile => answer(heap, plan, &Tile, lengths, query),
+                MeasureKind::Straight => Terms {
+                    heap,
+                    measure: &Straight,
+                    lengths,
+                }
+                .answer(plan, query),
+                MeasureKind::Street => Terms {
+                    heap,
+                    measure: &Street,
+                    lengths,
+                }
+                .answer(plan, query),
+                MeasureKind::Tile => Terms {
+                    heap,
+                    measure: &Tile,
+                    lengths,
+                }
+                .answer(plan, query),
             },
             None => self.say("no plan is at hand"),
         }

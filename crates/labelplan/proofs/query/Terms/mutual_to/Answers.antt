@@ -2,7 +2,7 @@ use Rattle.std.proofs.Common.{length, take, ap, ◌∙◌, arith, w32, SFits}
 use Rattle.std.proofs.lemmas.Int.{to_z-of_z}
 use Rattle.neighbours.specs.Queries.{refused_mutual}
 use Rattle.labelplan.proofs.Answering.{ended, written-back}
-use Rattle.labelplan.proofs.query.mutual_to.Goals as goal
+use Rattle.labelplan.proofs.query.Terms.mutual_to.Goals as goal
 
 pub returns-clause-ends : goal.returns-clause-ends
 returns-clause-ends g c =
