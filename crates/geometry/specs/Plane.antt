@@ -69,6 +69,10 @@ rect_at w s e n = record {
   near = (on-map w, on-map s, far-on-map w e, far-on-map s n);
 }
 
+-- the box of a single place
+abbrev pub spot : Place → Rect
+spot p = rect_at p.x p.y p.x p.y
+
 -- the box with these sides, or the refusal
 abbrev pub rect_from : ℤ → ℤ → ℤ → ℤ → Result Rect Refusal
 rect_from w s e n = cond (span w e && span s n) (Ok (rect_at w s e n)) (Err (refusal BadBox 0))

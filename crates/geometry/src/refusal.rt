@@ -1,5 +1,5 @@
 ghost use Rattle.std.specs.Prelude.{◌≡◌, Some};
-ghost use Rattle.geometry.specs.Refusals.{number_of};
+ghost use Rattle.geometry.specs.Refusals.{number_of, refusal};
 ghost use Rattle.geometry.specs.Words.{words_of, line_of};
 
 use std::error::Error;
@@ -38,6 +38,15 @@ impl Refusal {
         ensures { result ≡ number_of self.now.reason }
     {
         self.reason as u32
+    }
+}
+
+// A refusal about the whole call.
+impl From<Reason> for Refusal {
+    ghost from_gives = { λ reason r. r ≡ refusal reason 0 };
+
+    fn from(reason: Reason) -> Refusal {
+        Refusal { reason, place: 0 }
     }
 }
 

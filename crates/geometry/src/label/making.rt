@@ -1,5 +1,5 @@
-ghost use Rattle.std.specs.Prelude.{◌≡◌};
-ghost use Rattle.geometry.specs.Plane.{label_from, numbered};
+ghost use Rattle.std.specs.Prelude.{◌≡◌, pos};
+ghost use Rattle.geometry.specs.Plane.{label_at, label_from, numbered};
 
 use super::Label;
 use crate::place::Place;
@@ -9,7 +9,7 @@ use crate::refusal::{Reason, Refusal};
 pub fn numbered(number: u32) -> bool
     ensures { result ≡ numbered number }
 {
-    1 <= number && number <= 999_999_999
+    (1..=999_999_999).contains(&number)
 }
 
 impl Label {
@@ -17,10 +17,7 @@ impl Label {
         ensures { result ≡ label_from number x y }
     {
         if !numbered(number) {
-            return Err(Refusal {
-                reason: Reason::BadNumber,
-                place: 0,
-            });
+            return Err(Reason::BadNumber.into());
         }
         let place = Place::new(x, y)?;
         Ok(Label { number, place })
@@ -36,5 +33,17 @@ impl Label {
         ensures { result ≡ self.now.place }
     {
         self.place
+    }
+}
+
+// A label to fill a list with that has places to spare: number 1 in the middle of the map.
+impl Default for Label {
+    ghost is_default = { λ l. l ≡ label_at 1 (pos 0) (pos 0) };
+
+    fn default() -> Label {
+        Label {
+            number: 1,
+            place: Place::middle(),
+        }
     }
 }

@@ -18,10 +18,7 @@ impl Place {
         ensures { result ≡ place_from x y }
     {
         if !in_range(x) || !in_range(y) {
-            return Err(Refusal {
-                reason: Reason::BadPlace,
-                place: 0,
-            });
+            return Err(Reason::BadPlace.into());
         }
         Ok(Place { x, y })
     }

@@ -1,8 +1,9 @@
 ghost use Rattle.std.specs.Prelude.{◌≡◌};
-ghost use Rattle.geometry.specs.Plane.{rect_from, around, Smallest};
+ghost use Rattle.geometry.specs.Plane.{rect_from, around, spot, Smallest};
 
 use super::Rect;
 use super::span::Span;
+use crate::place::Place;
 use crate::refusal::{Reason, Refusal};
 
 impl Rect {
@@ -18,10 +19,7 @@ impl Rect {
             high: north,
         };
         if !across.is_side() || !along.is_side() {
-            return Err(Refusal {
-                reason: Reason::BadBox,
-                place: 0,
-            });
+            return Err(Reason::BadBox.into());
         }
         Ok(Rect {
             west,
@@ -29,6 +27,18 @@ impl Rect {
             east,
             north,
         })
+    }
+
+    // The box of a single place.
+    pub fn spot(p: Place) -> Rect
+        ensures { result ≡ spot p }
+    {
+        Rect {
+            west: p.x(),
+            south: p.y(),
+            east: p.x(),
+            north: p.y(),
+        }
     }
 
     // The smallest box around both.
