@@ -3,8 +3,10 @@
 
 pub mod openings;
 pub mod slot;
+pub mod slots;
 pub mod store;
 
 pub use openings::Openings;
 pub use slot::{SLOTS, Slot};
+pub use slots::open_slots;
 pub use store::NodeStore;

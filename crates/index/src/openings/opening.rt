@@ -34,16 +34,10 @@ impl Openings {
         ensures meter { self.new.meter ≡ meter_among nodes i self.old.meter }
     {
         if i >= nodes {
-            return Err(Refusal {
-                reason: Reason::NoSuchNode,
-                place: 0,
-            });
+            return Err(Reason::NoSuchNode.into());
         }
         if self.meter >= METER_END {
-            return Err(Refusal {
-                reason: Reason::MeterAtEnd,
-                place: 0,
-            });
+            return Err(Reason::MeterAtEnd.into());
         }
         self.node = Some(i);
         self.meter += 1;
