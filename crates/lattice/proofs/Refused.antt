@@ -28,9 +28,9 @@ none-moved rows columns step x x' y y' first p q h = h ∙ (λ i. refused_grid r
 -- what was not refused passed every test
 none_passes : (s p n : Bool) (a b c : Refusal) → None ≡ cond s (cond p (cond n None (Some a)) (Some b)) (Some c) → (s ≡ true) × (p ≡ true) × (n ≡ true)
 none_passes true true true a b c h = (refl, refl, refl)
-none_passes true true false a b c h = let z : ◌≡◌ {A = ℕ} 0 1 = cc in absurd (omega arith)
-none_passes true false n a b c h = let z : ◌≡◌ {A = ℕ} 0 1 = cc in absurd (omega arith)
-none_passes false p n a b c h = let z : ◌≡◌ {A = ℕ} 0 1 = cc in absurd (omega arith)
+none_passes true true false a b c h = absurd (cc)
+none_passes true false n a b c h = absurd (cc)
+none_passes false p n a b c h = absurd (cc)
 
 reach : (z : ℤ) (step n : ℕ) → is_reach z step n ≡ true → Reach z step n
 reach z step n h = let both = and_parts (in_range z) _ h in (leb-true (nat_abs z) 1000000 both.0, leb-true _ 1000000 both.1)

@@ -7,6 +7,9 @@ use super::Lattice;
 use geometry::{Label, Rect};
 use index::{SLOTS, Slot};
 
+// The numbers here cross between the types of sizes, of slots and of coordinates by `as`: no `From` takes one of these
+// types to another, and the bounds of a lattice show that each number fits.
+
 // The numbers from one row to the next: as many as a leaf has slots.
 pub(crate) const STRIDE: u32 = SLOTS as u32;
 

@@ -16,7 +16,7 @@ const LONGEST_STEP: u32 = 100_000;
 fn is_up_to(most: u32, n: u32) -> bool
     ensures { result ≡ is_up_to most n }
 {
-    1 <= n && n <= most
+    (1..=most).contains(&n)
 }
 
 // Whether the sizes are in range.
@@ -48,22 +48,13 @@ fn check(rows: u32, columns: u32, step: u32, x: i32, y: i32, first: u32) -> Resu
     ensures { MatchResult result (λ _. refused_grid rows columns step x y first ≡ None) (λ e. refused_grid rows columns step x y first ≡ Some e) }
 {
     if !is_sized(rows, columns, step) {
-        return Err(Refusal {
-            reason: Reason::BadSize,
-            place: 0,
-        });
+        return Err(Reason::BadSize.into());
     }
     if !is_reach(x, step, columns) || !is_reach(y, step, rows) {
-        return Err(Refusal {
-            reason: Reason::BadPlace,
-            place: 0,
-        });
+        return Err(Reason::BadPlace.into());
     }
     if !is_numbered(rows, columns, first) {
-        return Err(Refusal {
-            reason: Reason::BadNumber,
-            place: 0,
-        });
+        return Err(Reason::BadNumber.into());
     }
     Ok(())
 }

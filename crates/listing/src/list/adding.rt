@@ -4,7 +4,7 @@ ghost use Rattle.listing.specs.Lists.{labels_of, Added};
 
 use super::LabelList;
 use crate::failure::Failure;
-use geometry::{Label, Reason, Refusal};
+use geometry::{Label, Reason};
 use std::alloc::Global;
 
 // Whether one of the labels has the number.
@@ -29,10 +29,7 @@ impl LabelList {
     {
         let label = Label::new(number, x, y)?;
         if is_present(self.labels.as_slice(), number) {
-            return Err(Failure::Refused(Refusal {
-                reason: Reason::NumberPresent,
-                place: 0,
-            }));
+            return Err(Failure::Refused(Reason::NumberPresent.into()));
         }
         self.labels.push(label)?;
         Ok(())

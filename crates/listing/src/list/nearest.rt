@@ -7,7 +7,7 @@ ghost use Rattle.listing.specs.Lists.{labels_of, counted, refused_listing};
 use super::LabelList;
 use crate::failure::Failure;
 use crate::found::Found;
-use geometry::{Label, Place, Reason, Refusal};
+use geometry::{Label, Place, Reason};
 use measure::Measure;
 use queue::{Ranked, heapify, pop};
 use std::alloc::{AllocError, Global};
@@ -82,13 +82,11 @@ pub fn nearest_of<M: Measure>(
     ensures listing { IfOk result (λ v. v.items ≡ listing M.Distance.Ranked.precedes (M.dist measure.now (place_at x y)) k labels.now) }
 {
     if !counted(k) {
-        return Err(Failure::Refused(Refusal {
-            reason: Reason::BadCount,
-            place: 0,
-        }));
+        return Err(Failure::Refused(Reason::BadCount.into()));
     }
     let from = Place::new(x, y)?;
     let mut all = find_all(heap, measure, from, labels)?;
+    // No `From` takes a `u32` to a `usize`.
     Ok(take_nearest(heap, all.as_mut_slice(), k as usize)?)
 }
 

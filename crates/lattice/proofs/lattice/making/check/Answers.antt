@@ -15,13 +15,13 @@ returns-then-not-is_reach c =
       | then-not-is_reach-via-then-not-is_reach w ↦ and_left _ _ (sym (simp to_z-of_z at w.if-not-is_reach.ensures))
       | then-not-is_reach-via-else-not-is_reach+then-not-is_reach-2 w ↦ and_right _ _ (sym (simp to_z-of_z at w.if-not-is_reach-2.ensures))
     ] in
-    sym (refuses-places c.args.rows c.args.columns c.args.step c.args.x c.args.y c.args.first c.if-not-is_sized.ensures off)
+    rw c.into-then-not-is_reach.ensures (sym (refuses-places c.args.rows c.args.columns c.args.step c.args.x c.args.y c.args.first c.if-not-is_sized.ensures off))
 
 pub returns-then-not-is_numbered : goal.returns-then-not-is_numbered
 returns-then-not-is_numbered c =
     let fx : SFits w32 c.args.x = c.ranges.x in
     let fy : SFits w32 c.args.y = c.ranges.y in
-    sym (refuses-numbers c.args.rows c.args.columns c.args.step c.args.x c.args.y c.args.first c.if-not-is_sized.ensures (simp to_z-of_z at c.if-not-is_reach.ensures) (simp to_z-of_z at c.if-not-is_reach-2.ensures) c.if-not-is_numbered.ensures)
+    rw c.into-then-not-is_numbered.ensures (sym (refuses-numbers c.args.rows c.args.columns c.args.step c.args.x c.args.y c.args.first c.if-not-is_sized.ensures (simp to_z-of_z at c.if-not-is_reach.ensures) (simp to_z-of_z at c.if-not-is_reach-2.ensures) c.if-not-is_numbered.ensures))
 
 pub returns : goal.returns
 returns c =
