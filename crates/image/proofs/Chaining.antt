@@ -1,8 +1,10 @@
 -- The first refusal of the checks, one check after another.
-use Rattle.std.proofs.Common.{◌≡◌, ℕ, ◌-◌, ◌≤◌, Bool, true, false, eqb, leb, List, [], ◌∷◌, ◌++◌, length, take, drop, replicate, Some, None, Ok, Err, Option, sym, refl, ap, ◌∙◌, arith}
+use Rattle.std.proofs.Common.{◌≡◌, ℕ, ◌-◌, ◌≤◌, Bool, true, false, eqb, leb, List, [], ◌∷◌, ◌++◌, length, take, drop, replicate, Some, None, Ok, Err, Option, Result, sym, refl, ap, ◌∙◌, arith}
 use Rattle.std.proofs.lemmas.List.{take_rest, length-drop, length-replicate, get_or-replicate}
 use Rattle.std.proofs.lemmas.Bool.{cond-true, cond-false, le-leb, eq-eqb, ne_eqb}
 use Rattle.std.proofs.lemmas.Bool.Decides.{nat_tests}
+use Rattle.std.specs.Result.{IsErrAnd}
+use Rattle.std.proofs.lemmas.Result.{err_from_is_err_and}
 use Rattle.geometry.specs.declared.refusal.Refusal.{Refusal}
 use Rattle.geometry.specs.declared.refusal.Reason.TheVariants.{BadLength, BadSize}
 use Rattle.geometry.specs.Refusals.{refusal}
@@ -20,23 +22,27 @@ pub unless-fails : (b : Bool) (r : Refusal) (cs : List (Option Refusal)) → b �
 unless-fails b r cs f = ap (λ o. first_of (o ∷ cs)) (cond-false b None (Some r) f)
 
 some_first : (cs ds : List (Option Refusal)) (r : Refusal) → first_of cs ≡ Some r → first_of (cs ++ ds) ≡ Some r
-some_first [] ds r h = let z : ◌≡◌ {A = ℕ} 0 1 = cc in absurd (omega arith)
+some_first [] ds r h = absurd (cc)
 some_first (None ∷ cs) ds r h = some_first cs ds r h
 some_first (Some q ∷ cs) ds r h = h
 
 none_first : (cs ds : List (Option Refusal)) → first_of cs ≡ None → first_of (cs ++ ds) ≡ first_of ds
 none_first [] ds h = refl
 none_first (None ∷ cs) ds h = none_first cs ds h
-none_first (Some q ∷ cs) ds h = let z : ◌≡◌ {A = ℕ} 0 1 = cc in absurd (omega arith)
+none_first (Some q ∷ cs) ds h = absurd (cc)
 
 -- a check by what it tells
 pub told-none : (o : Option Refusal) (u : Unit {0}) → Ok u ≡ as_result o → o ≡ None
 told-none None u h = refl
-told-none (Some r) u h = let z : ◌≡◌ {A = ℕ} 0 1 = cc in absurd (omega arith)
+told-none (Some r) u h = absurd (cc)
 
 pub told-some : (o : Option Refusal) (r : Refusal) → Err r ≡ as_result o → o ≡ Some r
-told-some None r h = let z : ◌≡◌ {A = ℕ} 0 1 = cc in absurd (omega arith)
+told-some None r h = absurd (cc)
 told-some (Some q) r h = let e : q ≡ r = cc in ap (λ x. Some x) e
+
+-- a refusal that a `?` passes on
+pub passed-on : {T : Type 0} (r : Result T Refusal) (e : Refusal) → IsErrAnd r (λ f. f ≡ e) → r ≡ Err e
+passed-on r e h = let p = err_from_is_err_and r h in p.1 ∙ ap (λ f. Err f) p.2
 
 -- how long the bytes after the header are
 pub rest-length : (bs : List ℕ) → length (take (length bs - 4) (drop 4 bs)) ≡ length bs - 4

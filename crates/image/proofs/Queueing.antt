@@ -22,6 +22,9 @@ queued-none d items = subst (λ ns. Queued ns items 0) (sym (numbers-none d)) (r
 pub pushed-told : (items : List ℕ) (n : ℕ) → n < length items → pushed items n ≡ Some (n + 1)
 pushed-told items n l = cond-true (ltb n (length items)) (Some (n + 1)) None (lt-ltb n (length items) l)
 
+pub pushed_room : (items : List ℕ) (n : ℕ) → n < length items → None ≡ pushed items n → ⊥
+pushed_room items n l h = let e = h ∙ pushed-told items n l in let z : ◌≡◌ {A = ℕ} 0 1 = cc in omega arith
+
 module _ (d : Image) (items : List ℕ) (n e : ℕ) (queued : Queued (numbers_below d e) items n) where
   -- an entry that is no label's
   pub queued-other : is_leaf_entry d e ≡ false → Queued (numbers_below d (e + 1)) items n

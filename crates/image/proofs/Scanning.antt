@@ -1,46 +1,33 @@
 -- One more index of a scan for the first that fails a test.
-use Rattle.std.proofs.Common.{◌≡◌, ℕ, zero, suc, ◌+◌, ◌-◌, ◌<◌, ◌≤◌, Bool, true, false, cond, not, ◌&&◌, eqb, List, [], ◌∷◌, ◌++◌, map, length, get_or, set, is_some, Some, None, Err, Option, filter, unwrap_or, sym, refl, ap, ◌∙◌, subst, ⊎_elim, add-one, arith}
+use Rattle.std.proofs.Common.{◌≡◌, ℕ, zero, suc, ◌+◌, ◌-◌, ◌<◌, ◌≤◌, Bool, true, false, cond, not, ◌&&◌, eqb, List, [], ◌∷◌, ◌++◌, map, length, get_or, set, is_some, Some, None, Ok, Err, Option, filter, unwrap_or, sym, refl, ap, ◌∙◌, subst, ⊎_elim, add-one, arith}
 use Rattle.std.proofs.lemmas.Bool.{cases_eq, cases_lt, cases_Bool, cond-true, cond-false, cond_both, eqb-true, eq-eqb, ne_eqb, le-leb}
 use Rattle.std.proofs.lemmas.Bool.Decides.{nat_tests}
 use Rattle.std.proofs.lemmas.List.Elements.{filter-append}
 use lib.ListN.{length-map}
 use Rattle.std.proofs.lemmas.List.Sums.{length-filter}
-use Rattle.std.specs.List.{range_with_len, list_all, find, count_by}
+use Rattle.std.specs.List.{range_with_len, list_all, count_by}
+use Rattle.std.specs.Option.{MatchOption, option_or}
 use Rattle.std.proofs.lemmas.List.Folds.{list_all-append}
 use Rattle.std.proofs.lemmas.List.{append-nil, map-append, length-append, length-set, get_or-set_same, get_or-set_other}
+use Rattle.geometry.specs.declared.refusal.Refusal.{Refusal}
 use Rattle.geometry.specs.declared.refusal.Reason.{Reason}
 use Rattle.geometry.specs.Refusals.{refusal}
-use Rattle.image.specs.Checks.{first_bad, at_first, branch_fine, target_fine}
+use Rattle.image.specs.Checks.{first_bad, unless, at_first, branch_fine, target_fine}
 use Rattle.image.specs.Layout.{Image, image_of}
 use Rattle.image.specs.Nodes.{start, is_leaf, owner, is_leaf_entry, is_branch, leader_below, label_numbers}
 use Rattle.image.specs.Results.{as_result, Sized, Owned, Led, leading, numbers_below}
+use Rattle.image.specs.Firsts.{none-bad}
 use Rattle.image.specs.Ranges.{counting-append}
 use Rattle.image.specs.Owners.{start-more, start-rises, owner-is, owner-in}
 
--- the first option, or else the second
-abbrev or_else : Option ℕ → Option ℕ → Option ℕ
-or_else (Some i) o = Some i
-or_else None o = o
-
-or_elim : (o p : Option ℕ) → elim o as (λ _. Option ℕ) [ Some i ↦ Some i | None ↦ p ] ≡ or_else o p
+or_elim : (o p : Option ℕ) → elim o as (λ _. Option ℕ) [ Some i ↦ Some i | None ↦ p ] ≡ option_or o p
 or_elim (Some i) p = refl
 or_elim None p = refl
 
-none-else : (o : Option ℕ) (b : Bool) (i : ℕ) → (not (is_some o) && (b && true)) ≡ not (is_some (or_else o (cond b None (Some i))))
+none-else : (o : Option ℕ) (b : Bool) (i : ℕ) → (not (is_some o) && (b && true)) ≡ not (is_some (option_or o (cond b None (Some i))))
 none-else (Some j) b i = refl
 none-else None true i = refl
 none-else None false i = refl
-
-cond-not : (b : Bool) (x y : Option ℕ) → cond (not b) x y ≡ cond b y x
-cond-not true x y = refl
-cond-not false x y = refl
-
-find-append : (p : ℕ → Bool) (xs ys : List ℕ) → find p (xs ++ ys) ≡ or_else (find p xs) (find p ys)
-find-append p [] ys = refl
-find-append p (x ∷ xs) ys = ⊎_elim
-    (λ (t : p x ≡ true). cond-true (p x) (Some x) (find p (xs ++ ys)) t ∙ ap (λ o. or_else o (find p ys)) (sym (cond-true (p x) (Some x) (find p xs) t)))
-    (λ (u : p x ≡ false). cond-false (p x) (Some x) (find p (xs ++ ys)) u ∙ find-append p xs ys ∙ ap (λ o. or_else o (find p ys)) (sym (cond-false (p x) (Some x) (find p xs) u)))
-    (cases_Bool (p x))
 
 one-more : (n : ℕ) → range_with_len 0 (suc n) ≡ range_with_len 0 n ++ range_with_len (0 + n) 1
 one-more n = ap (range_with_len 0) (let w : suc n ≡ n + 1 = omega arith in w) ∙ counting-append 0 n 1
@@ -74,24 +61,22 @@ module _ (f : ℕ → Bool) where
       (λ (u : i ≡ n → ⊥). later i n (bad-found i n h t (omega (arith, u))))
       (cases_eq i n)
 
+  -- no more is left
+  pub all_done : (r : Refusal) (i n : ℕ) → first_bad f i ≡ None → i ≤ n → n ≤ i → Ok tt ≡ as_result (unless (not (is_some (first_bad f n))) r)
+  all_done r i n h a b = ap (λ o. as_result (unless (not (is_some o)) r)) (sym h ∙ ap (first_bad f) (let e : i ≡ n = omega arith in e))
+
   -- the scan stops at i
   pub scan-stops : (why : ℕ → Reason) (i n : ℕ) → first_bad f i ≡ None → f i ≡ false → i < n → Err (refusal (why i) i) ≡ as_result (at_first (first_bad f n) why)
   scan-stops why i n h t l = ap (λ o. as_result (at_first o why)) (sym (bad-found i n h t l))
 
-  -- what looks through the numbers finds the same
-  first-next : (n : ℕ) → first_bad f (suc n) ≡ or_else (first_bad f n) (cond (f n) None (Some n))
+  first-next : (n : ℕ) → first_bad f (suc n) ≡ option_or (first_bad f n) (cond (f n) None (Some n))
   unfolding first_bad
   first-next n = or_elim (first_bad f n) (cond (f n) None (Some n))
 
-  last-found : (n : ℕ) → find (λ i. not (f i)) (range_with_len (0 + n) 1) ≡ cond (f n) None (Some n)
-  last-found n = ap (λ k. find (λ i. not (f i)) (k ∷ [])) (let w : 0 + n ≡ n = omega arith in w) ∙ cond-not (f n) (Some n) None
-
-  pub find-bad : (n : ℕ) → find (λ i. not (f i)) (range_with_len 0 n) ≡ first_bad f n
-  find-bad zero = sym bad-none
-  find-bad (suc n) =
-      let p : ℕ → Bool = λ i. not (f i) in
-      ap (find p) (one-more n) ∙ find-append p (range_with_len 0 n) (range_with_len (0 + n) 1)
-      ∙ (λ i. or_else (find-bad n i) (last-found n i)) ∙ sym (first-next n)
+  -- what looks through the numbers finds the same
+  pub find-bad : (n : ℕ) (o : Option ℕ) → MatchOption o ((k : ℕ) → 0 ≤ k → k < n → f k ≡ true) (λ i. (0 ≤ i) × (i < n) × (f i ≡ false) × ((k : ℕ) → 0 ≤ k → k < i → f k ≡ true)) → o ≡ first_bad f n
+  find-bad n None h = sym (none-bad f n (λ k l. h k (omega arith) l))
+  find-bad n (Some i) h = sym (bad-found i n (none-bad f i (λ k l. h.3 k (omega arith) l)) h.2 h.1)
 
   pub all-fine : (n : ℕ) → list_all f (range_with_len 0 n) ≡ not (is_some (first_bad f n))
   all-fine zero = ap (λ o. not (is_some o)) (sym bad-none)
@@ -99,6 +84,10 @@ module _ (f : ℕ → Bool) where
       ap (list_all f) (one-more n) ∙ list_all-append f (range_with_len 0 n) (range_with_len (0 + n) 1)
       ∙ (λ i. all-fine n i && (f ((let w : 0 + n ≡ n = omega arith in w) i) && true)) ∙ none-else (first_bad f n) (f n) n
       ∙ ap (λ o. not (is_some o)) (sym (first-next n))
+
+-- what is written from a place on leaves the list below it
+pub written_same : (xs ys : List ℕ) (i v from : ℕ) → from ≤ i → ((k : ℕ) → k < from → get_or xs k 0 ≡ get_or ys k 0) → (k : ℕ) → k < from → get_or (set xs i v) k 0 ≡ get_or ys k 0
+written_same xs ys i v from l h k b = get_or-set_other xs i k v 0 (λ e. omega arith) ∙ h k b
 
 -- one more node's entries
 module _ (d : Image) where

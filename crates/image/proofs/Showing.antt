@@ -1,10 +1,12 @@
 -- What opening an image leaves.
-use Rattle.std.proofs.Common.{◌≡◌, ℕ, ◌≤◌, false, not, List, ◌∷◌, length, get_or, replicate, is_some, None, filter, refl, ap, ◌∙◌, arith}
+use Rattle.std.proofs.Common.{◌≡◌, ℕ, ◌≤◌, false, not, List, ◌∷◌, length, get_or, replicate, is_some, None, filter, vec_items, sym, refl, ap, ◌∙◌, arith}
 use lib.ListN.{length-map}
 use Rattle.std.specs.List.{range_with_len}
 use Rattle.std.proofs.lemmas.List.FromFn.{length-range_with_len}
 use Rattle.std.proofs.lemmas.List.Filters.{length-filter_both}
+use Rattle.index.specs.Table.{node_count}
 use Rattle.index.specs.declared.slot.Slot.TheVariants.{Empty}
+use Rattle.image.specs.declared.store.ImageStore.{ImageStore}
 use Rattle.image.specs.Layout.{Image, image_of}
 use Rattle.queue.specs.Order.{sorted}
 use Rattle.image.specs.Nodes.{is_leaf_entry, start, owner_below, leader_below, node_of, table_of, label_numbers}
@@ -51,3 +53,7 @@ empty-sized = (refl, refl)
 pub empty-shows : table_of (image_of empty) ≡ empty_table
 unfolding table_of node_of image_of start empty_table
 empty-shows = refl
+
+-- how many nodes a store has, by its table
+pub nodes-stored : (s : ImageStore) → s.nodes ≡ node_count (table_of (image_of (vec_items s.bytes)))
+nodes-stored s = s.sized.0 ∙ sym (node-count (image_of (vec_items s.bytes)))

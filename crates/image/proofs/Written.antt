@@ -8,7 +8,7 @@ use Rattle.geometry.specs.declared.refusal.Reason.TheVariants.{BadBox}
 use Rattle.geometry.specs.Refusals.{refusal}
 use Rattle.geometry.specs.Plane.{span, rect_from, rect_at}
 use Rattle.image.specs.Checks.{node_fine}
-use Rattle.image.specs.Layout.{two, image_of}
+use Rattle.image.specs.Layout.{two, four, target_start, image_of}
 
 module _ (bs : List ℕ) where
   pub level-is : (i : ℕ) → get_or bs (4 + 2 * i) 0 ≡ (image_of bs).level i
@@ -26,6 +26,10 @@ module _ (bs : List ℕ) where
   pub entries-is : two bs 2 ≡ (image_of bs).entries
   unfolding image_of
   entries-is = refl
+
+  pub target_is : (n m e : ℕ) → n ≡ (image_of bs).nodes → m ≡ (image_of bs).entries → four bs (target_start n m e) ≡ (image_of bs).target e
+  unfolding image_of
+  target_is n m e h k = λ i. four bs (target_start (h i) (k i) e)
 
   -- what is left of the bytes at the level of node i
   module _ (left : List ℕ) (i : ℕ) (here : left ≡ drop (4 + 2 * i) bs) where

@@ -1,5 +1,5 @@
 -- What an accepted image gives to the store that holds it.
-use Rattle.std.specs.Prelude.{◌≡◌, ℕ, suc, ◌+◌, ◌<◌, ◌≤◌, true, false, cond, ◌&&◌, List, map, length, is_some, Some, None, Ok, Option, ◌≢◌, nat_lt, slice_index_or, refl}
+use Rattle.std.specs.Prelude.{◌≡◌, ℕ, suc, ◌+◌, ◌<◌, ◌≤◌, true, false, cond, ◌&&◌, List, map, length, is_some, Some, None, Ok, Option, ◌==◌, ◌≢◌, nat_lt, slice_index_or, refl}
 use Rattle.std.proofs.Common.{sym, ap, ◌∙◌, arith}
 use Rattle.std.proofs.Math.Logic.{⊎_elim}
 use Rattle.std.specs.List.{range_with_len}
@@ -8,14 +8,14 @@ use Rattle.std.proofs.lemmas.List.{get_or_past}
 use Rattle.std.proofs.lemmas.Bool.{cases_lt, cond-true, cond-false, both_ways}
 use Rattle.std.proofs.lemmas.Bool.Decides.{nat_tests}
 use Rattle.geometry.specs.Plane.{in_range, numbered, span, label_from, rect_from}
-use Rattle.geometry.proofs.Boxes.{and-made, spanned, in-range}
+use Rattle.geometry.proofs.Boxes.{and_both, and-made, spanned, in-range}
 use Rattle.index.specs.declared.slot.Slot.TheVariants.{Empty, Holds, Leads}
 use Rattle.index.specs.Laws.{Lawful, Inside}
 use Rattle.image.specs.Layout.{Image, image_of}
 use Rattle.image.specs.Nodes.{is_leaf, start, owner, is_leaf_entry, box_of, label_of, slot_of, node_of, table_of}
 use Rattle.image.specs.Checks.{verdict}
 use Rattle.image.specs.Results.{Sized}
-use Rattle.image.specs.Opened.{has_open, label_slot, branch_slot}
+use Rattle.image.specs.Opened.{has_open, opens_at, label_slot, branch_slot}
 use Rattle.image.specs.Owners.{start-more, start-some, start-rises, owner-is}
 use Rattle.image.specs.Passing.{Passed, number_of, spans-of, leaf-entry}
 use Rattle.image.specs.Lawfulness.{node-count, lawful-table}
@@ -43,9 +43,14 @@ held-sized bs n m h a b =
       whole = omega (arith, x.whole);
     }
 
-pub opens-inside : (d : Image) (o : Option ℕ) → has_open d o ≡ true → Inside (table_of d) o
-opens-inside d None h = tt
-opens-inside d (Some i) h = let l : i < d.nodes = grind (arith, nat_tests) in omega (arith, node-count d)
+-- the open node is one of the table's
+pub has_open-inside : (d : Image) (o : Option ℕ) → has_open d o ≡ true → Inside (table_of d) o
+has_open-inside d None h = tt
+has_open-inside d (Some i) h = let l : i < d.nodes = grind (arith, nat_tests) in omega (arith, node-count d)
+
+pub opens-inside : (d : Image) (o : Option ℕ) (e : ℕ) → opens_at d o e ≡ true → Inside (table_of d) o
+opens-inside d None e h = tt
+opens-inside d (Some i) e h = has_open-inside d (Some i) (and_both (nat_lt i d.nodes) (e == start d i) h).0
 
 -- the slots of a node, and past them
 module _ (d : Image) (i j : ℕ) where
@@ -98,8 +103,15 @@ module _ (d : Image) (p : Passed d) where
       let inner : is_leaf d i ≡ false = grind (arith, nat_tests) in
       ap (branch_slot (d.target e)) (box-made e (entry_in i j h k).0) ∙ sym (cond-false (is_leaf d i) (Holds (label_of d e)) (Leads (box_of d e) (d.target e)) inner) ∙ sym (slot-entry d i j (count_small i h) k)
 
-pub opens-told : (d : Image) (i : ℕ) → has_open d (Some i) ≡ true → i < d.nodes
-opens-told d i h = grind (arith, nat_tests)
+-- an open node, and the entry in its slot 0
+pub has_open-told : (d : Image) (i : ℕ) → has_open d (Some i) ≡ true → i < d.nodes
+has_open-told d i h = grind (arith, nat_tests)
+
+pub opens-made : (d : Image) (i e : ℕ) → i < d.nodes → e ≡ start d i → opens_at d (Some i) e ≡ true
+opens-made d i e h q = and-made (nat_lt i d.nodes) (e == start d i) (grind (arith, nat_tests)) (grind (arith, nat_tests))
+
+pub opens-told : (d : Image) (i e : ℕ) → opens_at d (Some i) e ≡ true → (i < d.nodes) × (e ≡ start d i)
+opens-told d i e h = let both = and_both (nat_lt i d.nodes) (e == start d i) h in (has_open-told d i both.0, let w = both.1 in grind (arith, nat_tests))
 
 -- the root box
 pub root-made : (bs : List ℕ) → is_some (verdict bs 1537) ≡ false → rect_from ((image_of bs).west 0) ((image_of bs).south 0) ((image_of bs).east 0) ((image_of bs).north 0) ≡ Ok (table_of (image_of bs)).box

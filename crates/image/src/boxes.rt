@@ -1,6 +1,5 @@
 // The checks of the boxes.
-ghost use Rattle.std.specs.Prelude.{◌≡◌, ◌<◌, not, ◌&&◌, int_le};
-ghost use Rattle.std.specs.List.{range_with_len, find};
+ghost use Rattle.std.specs.Prelude.{◌≡◌, ◌<◌, ◌&&◌, int_le};
 ghost use Rattle.geometry.specs.declared.refusal.Reason.TheVariants.{BadBox, OutsideBox};
 ghost use Rattle.geometry.specs.Plane.{span, spanning};
 ghost use Rattle.image.specs.Layout.{image_of};
@@ -13,7 +12,8 @@ use crate::refusing::refuse_at;
 use crate::targets::Leads;
 use geometry::{Reason, Refusal};
 
-// Whether the numbers from `low` to `high` hold those from `first` to `last`.
+// Whether the numbers from `low` to `high` hold those from `first` to `last`. Geometry's `Span` has the same test and
+// is its own: made public, it would bring three other calls for this one.
 fn is_spanning(low: i32, high: i32, first: i32, last: i32) -> bool
     ensures { result ≡ spanning low high first last }
 {
@@ -61,17 +61,14 @@ impl Entries<'_> {
         true
     }
 
-    fn first_bad_box(self) -> Option<usize>
-        ensures { result ≡ find (λ e. not (box_fine (image_of self.entry.reader.bytes.now) e)) (range_with_len 0 self.entry.reader.entries) }
-    {
-        (0..self.reader.entries).find(|e| !self.is_box_fine(*e))
-    }
-
     // Every box is upright and on the map, and that of a label is one place.
     pub(crate) fn check_boxes(self) -> Result<(), Refusal>
         ensures { result ≡ as_result (at_first (first_bad (box_fine (image_of self.entry.reader.bytes.now)) self.entry.reader.entries) (λ _. BadBox)) }
     {
-        refuse_at(self.first_bad_box(), Reason::BadBox)
+        refuse_at(
+            (0..self.reader.entries).find(|e| !self.is_box_fine(*e)),
+            Reason::BadBox,
+        )
     }
 }
 
@@ -88,16 +85,13 @@ impl Leads<'_> {
                 .is_inside(self.leaders[self.entries.owners[e]].unwrap_or(0), e)
     }
 
-    fn first_out_of_place(&self) -> Option<usize>
-        ensures { result ≡ find (λ e. not (inside_fine (image_of self.entry.now.entries.reader.bytes.now) e)) (range_with_len 0 self.entry.now.entries.reader.entries) }
-    {
-        (0..self.entries.reader.entries).find(|e| !self.is_in_place(*e))
-    }
-
     // Every entry but entry 0 lies inside its node's box.
     pub(crate) fn check_inside(&self) -> Result<(), Refusal>
         ensures { result ≡ as_result (at_first (first_bad (inside_fine (image_of self.entry.now.entries.reader.bytes.now)) self.entry.now.entries.reader.entries) (λ _. OutsideBox)) }
     {
-        refuse_at(self.first_out_of_place(), Reason::OutsideBox)
+        refuse_at(
+            (0..self.entries.reader.entries).find(|e| !self.is_in_place(*e)),
+            Reason::OutsideBox,
+        )
     }
 }

@@ -30,10 +30,7 @@ fn read_sizes(bytes: &[u8]) -> Result<Reader<'_>, Refusal>
     let nodes = usize::from(u16::from_be_bytes([*n1, *n0]));
     let entries = usize::from(u16::from_be_bytes([*m1, *m0]));
     if !is_in_size(nodes, entries) {
-        return Err(Refusal {
-            reason: Reason::BadSize,
-            place: 0,
-        });
+        return Err(Reason::BadSize.into());
     }
     if rest.len() != 2 * nodes + 20 * entries {
         return Err(Refusal {

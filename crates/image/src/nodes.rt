@@ -47,7 +47,7 @@ impl<'a> Reader<'a> {
             let [level, count, rest @ ..] = left else {
                 return Ok(());
             };
-            if *level > TOP_LEVEL || *count as usize > SLOTS {
+            if *level > TOP_LEVEL || usize::from(*count) > SLOTS {
                 return Err(Refusal {
                     reason: Reason::BadSize,
                     place: i,
@@ -65,7 +65,7 @@ impl<'a> Reader<'a> {
         let mut starts = [1; STARTS];
         // A node's count is read by its number, and each start is written from the one before it.
         for i in 0..self.nodes {
-            starts[i + 1] = starts[i] + self.count(i) as usize;
+            starts[i + 1] = starts[i] + usize::from(self.count(i));
         }
         starts
     }

@@ -60,7 +60,7 @@ impl Entries<'_> {
         requires { length (label_numbers (image_of self.reader.bytes.now)) ≤ length numbers.old }
         ensures { Queued (label_numbers (image_of self.entry.reader.bytes.now)) numbers.new result }
     {
-        // An entry is read by its number, at places of the bytes that follow from it: there is no list to go over.
+        // An entry is read by its number, and each turn pushes into the list that the next one pushes into.
         let mut len = 0;
         for e in 0..self.reader.entries {
             if self.is_leaf_entry(e) {
@@ -76,6 +76,7 @@ impl Entries<'_> {
         ensures { result ≡ as_result (option_map (refusal BadNumber) (smallest_repeated (label_numbers (image_of self.entry.reader.bytes.now)))) }
     {
         let len = self.push_numbers(numbers);
+        // No `From` takes a `u32` to a `usize`.
         refuse_at(
             first_repeated(numbers, len).map(|x| x as usize),
             Reason::BadNumber,

@@ -23,6 +23,8 @@ pub(crate) struct Reader<'a> {
     ghost sized: { Sized bytes.now nodes entries },
 }
 
+// An entry's number is asked for in range by each call: a type of numbers in range would be made at each turn of a
+// loop, where the same bound is shown.
 impl Reader<'_> {
     // The four bytes from `at` on.
     fn four_at(self, at: usize) -> [u8; 4]
@@ -37,13 +39,21 @@ impl Reader<'_> {
         ]
     }
 
+    // The size byte of node `i` that stands so many bytes after its first.
+    fn size_byte(self, i: usize, after: usize) -> u8
+        requires { (i < self.nodes) × (after ≤ 1) }
+        ensures { result ≡ slice_index self.entry.bytes.now (4 + 2 * i + after) }
+    {
+        self.bytes[4 + 2 * i + after]
+    }
+
     // The level of node `i`.
     #[tactic(auto, unfolding(crate::specs::Layout::image_of))]
     pub(crate) fn level(self, i: usize) -> u8
         requires { i < self.nodes }
         ensures { result ≡ (image_of self.entry.bytes.now).level i }
     {
-        self.bytes[4 + 2 * i]
+        self.size_byte(i, 0)
     }
 
     // How many entries node `i` has.
@@ -52,7 +62,7 @@ impl Reader<'_> {
         requires { i < self.nodes }
         ensures { result ≡ (image_of self.entry.bytes.now).count i }
     {
-        self.bytes[5 + 2 * i]
+        self.size_byte(i, 1)
     }
 
     // The side of the box of entry `e` that stands so many bytes after its first.
@@ -63,7 +73,7 @@ impl Reader<'_> {
         i32::from_be_bytes(self.four_at(4 + 2 * self.nodes + 16 * e + after))
     }
 
-    // The sides of the box of entry `e`.
+    // The sides of the box of entry `e`, each named for what it is; `side` reads all four.
     #[tactic(auto, unfolding(crate::specs::Layout::image_of))]
     pub(crate) fn west(self, e: usize) -> i32
         requires { e < self.entries }

@@ -25,6 +25,7 @@ impl Reader<'_> {
         requires { e < self.entries }
         ensures { result ≡ branch_slot ((image_of self.entry.bytes.now).target e) (rect_from ((image_of self.entry.bytes.now).west e) ((image_of self.entry.bytes.now).south e) ((image_of self.entry.bytes.now).east e) ((image_of self.entry.bytes.now).north e)) }
     {
+        // No `From` takes a `u32` to a `usize`.
         let to = self.target(e) as usize;
         self.rect(e).map_or(Slot::Empty, |b| Slot::Leads(b, to))
     }
@@ -35,7 +36,7 @@ impl Reader<'_> {
         requires node { (i < self.nodes) × (first ≡ start (image_of self.bytes.now) i) }
         ensures { result ≡ slice_index_or (node_of (image_of self.entry.bytes.now) i) j Empty }
     {
-        if j >= self.count(i) as usize {
+        if j >= usize::from(self.count(i)) {
             return Slot::Empty;
         }
         if self.level(i) == 0 {

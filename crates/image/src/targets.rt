@@ -27,10 +27,11 @@ impl<'a> Entries<'a> {
         ensures { result ≡ leads_down (image_of self.entry.reader.bytes.now) e }
     {
         let own = self.owners[e];
+        // No `From` takes a `u32` to a `usize`.
         let to = self.reader.target(e) as usize;
         own < to
             && to < self.reader.nodes
-            && self.reader.level(to) as usize + 1 == self.reader.level(own) as usize
+            && usize::from(self.reader.level(to)) + 1 == usize::from(self.reader.level(own))
     }
 
     // Whether entry `e` has a target as its kind asks for, where nothing leads to a node twice.

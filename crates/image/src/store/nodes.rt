@@ -1,7 +1,7 @@
 ghost use Rattle.std.specs.Prelude.{◌≡◌};
 ghost use Rattle.image.specs.Layout.{image_of};
 ghost use Rattle.image.specs.Nodes.{table_of};
-ghost use Rattle.image.specs.Held.{held-lawful, opens-inside};
+ghost use Rattle.image.specs.Held.{has_open-inside, held-lawful};
 ghost use Rattle.std.proofs.Common.{rules, arith};
 
 use super::ImageStore;
@@ -17,7 +17,7 @@ impl NodeStore for ImageStore {
 
     ghost lawful = { λ s. held-lawful s.bytes.items s.fine };
 
-    ghost within = { λ s. opens-inside (image_of s.bytes.items) s.openings.node s.within };
+    ghost within = { λ s. has_open-inside (image_of s.bytes.items) s.openings.node s.within };
 
     ghost bounded = { first_of (Prim.search rules, Prim.grind (arith, Self.row.coded.inj)) };
 

@@ -13,6 +13,6 @@ pub loop-i-preserved : goal.loop-i-preserved
 loop-i-preserved c =
     let d = image_of c.args.self.bytes.now in
     let l = c.loop-i in
-    let next = get_or l.starts l.i 0 + c.count.result in
+    let next = get_or l.starts l.i 0 + c.from.result in
     let there = get_or-set_same l.starts (l.i + 1) next 0 (omega (arith, l.invariant.0)) in
     (length-set l.starts (l.i + 1) next ∙ l.invariant.0, omega (arith, there, l.invariant.1), starts-more d l.starts l.i next (omega (arith, l.invariant.0)) (omega (arith, l.invariant.2 l.i (omega arith), start-next d l.i)) l.invariant.2)

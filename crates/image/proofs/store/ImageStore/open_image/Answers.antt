@@ -1,14 +1,14 @@
-use Rattle.std.proofs.Common.{◌≡◌, false, length, is_some, is_ok, Err, sym, refl, ap, ◌∙◌, subst, arith}
-use Rattle.std.proofs.lemmas.Result.{err_from_is_err_and}
+use Rattle.std.proofs.Common.{◌≡◌, false, length, is_some, is_ok, sym, refl, ap, ◌∙◌, subst}
 use Rattle.std.proofs.lemmas.Bool.{both_ways}
 use Rattle.index.specs.Laws.{Lawful}
 use Rattle.image.specs.Layout.{image_of}
-use Rattle.image.specs.Nodes.{start, table_of}
+use Rattle.image.specs.Nodes.{table_of}
 use Rattle.image.specs.Checks.{verdict}
 use Rattle.image.specs.Results.{as_result}
 use Rattle.image.specs.Store.{HasEntries}
 use Rattle.image.specs.Exactly.{accepted, accepted-obeys, obeys-accepted}
 use Rattle.image.specs.Lawfulness.{lawful-table}
+use Rattle.image.proofs.Chaining.{passed-on}
 use Rattle.image.proofs.Showing.{accepted-roomy, has-entries}
 use Rattle.image.proofs.store.ImageStore.open_image.Goals as goal
 
@@ -16,22 +16,13 @@ pub returns-in_err-reader-clause-exactly : goal.returns-in_err-reader-clause-exa
 returns-in_err-reader-clause-exactly c fits =
     let bs = c.args.bytes.now in
     let room = length c.args.numbers.now in
-    let p = err_from_is_err_and c.from_residual.result c.from_residual.ensures.1 in
-    let told : c.from_residual.result ≡ as_result (verdict bs room) = p.1 ∙ ap (λ e. Err e) p.2 ∙ ap as_result (sym c.in_err-reader.ensures) in
-    (λ h. absurd (both_ways (is_ok c.from_residual.result) (ap is_ok p.1) h), λ o. ap is_ok told ∙ ap (λ v. is_ok (as_result v)) (obeys-accepted bs room fits o))
+    let p = passed-on c.from_residual.result _ c.from_residual.ensures.1 in
+    let told : c.from_residual.result ≡ as_result (verdict bs room) = p ∙ ap as_result (sym c.in_err-reader.ensures) in
+    (λ h. absurd (both_ways (is_ok c.from_residual.result) (ap is_ok p) h), λ o. ap is_ok told ∙ ap (λ v. is_ok (as_result v)) (obeys-accepted bs room fits o))
 
 pub invariant_of-self-clause-fine : goal.invariant_of-self-clause-fine
 invariant_of-self-clause-fine c =
     subst (λ l. is_some (verdict l 1537) ≡ false) (sym c.refill.ensures.items) (ap is_some (accepted-roomy c.args.bytes.now (length c.args.numbers.now) c.in_ok-reader.ensures.0))
-
-pub invariant_of-self-clause-sized : goal.invariant_of-self-clause-sized
-invariant_of-self-clause-sized c =
-    let r = c.in_ok-reader.reader in
-    let read = c.in_ok-reader.ensures.1 ∙ sym c.refill.ensures.items in
-    (r.sized.nodes ∙ ap (λ l. (image_of l).nodes) read, r.sized.entries ∙ ap (λ l. (image_of l).entries) read)
-
-pub invariant_of-self-clause-placed : goal.invariant_of-self-clause-placed
-invariant_of-self-clause-placed c i h = c.starts-self.ensures i (omega (arith, h)) ∙ ap (λ l. start (image_of l) i) (c.in_ok-reader.ensures.1 ∙ sym c.refill.ensures.items)
 
 pub returns-clause-exactly : goal.returns-clause-exactly
 returns-clause-exactly c fits =
