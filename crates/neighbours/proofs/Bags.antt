@@ -1,7 +1,8 @@
 -- Lists up to their order: two lists hold the same items when they are equal once sorted.
-use Rattle.std.proofs.Common.{◌≡◌, Bool, false, cond, List, [], ◌∷◌, ◌++◌, map, sym, refl, ap, ◌∙◌, subst, ⊎_elim}
+use Rattle.std.proofs.Common.{◌≡◌, Bool, false, cond, List, [], ◌∷◌, ◌++◌, sym, refl, ap, ◌∙◌, subst, ⊎_elim}
 use Rattle.std.specs.List.{flat_map, AllByRecursion}
-use Rattle.std.proofs.lemmas.List.{append_assoc, append-nil}
+use Rattle.std.proofs.lemmas.List.{append-nil}
+use Rattle.std.proofs.lemmas.Grind.{flat_map-append}
 use Rattle.std.proofs.ByRecursion.{All-append}
 use Rattle.std.proofs.lemmas.Bool.{cases_Bool, cond-true, cond-false}
 use Rattle.queue.specs.Order.{Order, insert, sorted}
@@ -9,17 +10,9 @@ use Rattle.queue.proofs.Sorting.{insert_comm, insert-past, insert-here, all_inse
 use Rattle.queue.proofs.Ascending.{Ascending, sorted-ascends}
 use Rattle.neighbours.specs.Forest.{inserts}
 
-pub joined-append : {A B : Type 0} (f : A → List B) (xs ys : List A) → flat_map f (xs ++ ys) ≡ flat_map f xs ++ flat_map f ys
-joined-append f [] ys = refl
-joined-append f (x ∷ xs) ys = ap (λ l. f x ++ l) (joined-append f xs ys) ∙ sym (append_assoc (f x) (flat_map f xs) (flat_map f ys))
-
-pub joined-map : {A B C : Type 0} (f : B → List C) (g : A → B) (xs : List A) → flat_map f (map g xs) ≡ flat_map (λ x. f (g x)) xs
-joined-map f g [] = refl
-joined-map f g (x ∷ xs) = ap (λ l. f (g x) ++ l) (joined-map f g xs)
-
 pub joined-joined : {A B C : Type 0} (f : B → List C) (g : A → List B) (xs : List A) → flat_map (λ x. flat_map f (g x)) xs ≡ flat_map f (flat_map g xs)
 joined-joined f g [] = refl
-joined-joined f g (x ∷ xs) = ap (λ l. flat_map f (g x) ++ l) (joined-joined f g xs) ∙ sym (joined-append f (g x) (flat_map g xs))
+joined-joined f g (x ∷ xs) = ap (λ l. flat_map f (g x) ++ l) (joined-joined f g xs) ∙ sym (flat_map-append f (g x) (flat_map g xs))
 
 pub joined_same : {X Y : Type 0} (f g : X → List Y) (xs : List X) (P : X → Type 0) → ((x : X) → P x → f x ≡ g x) → AllByRecursion P xs → flat_map f xs ≡ flat_map g xs
 joined_same f g [] P e h = refl
@@ -29,7 +22,7 @@ pub all-joined : {X Y : Type 0} (f : X → List Y) (Q : Y → Type 0) (xs : List
 all-joined f Q [] P e h = tt
 all-joined f Q (x ∷ xs) P e h = All-append Q (f x) (flat_map f xs) (e x h.0) (all-joined f Q xs P e h.1)
 
-all-parts : {X : Type 0} (P : X → Type 0) (xs ys : List X) → AllByRecursion P (xs ++ ys) → AllByRecursion P xs × AllByRecursion P ys
+pub all-parts : {X : Type 0} (P : X → Type 0) (xs ys : List X) → AllByRecursion P (xs ++ ys) → AllByRecursion P xs × AllByRecursion P ys
 all-parts P [] ys h = (tt, h)
 all-parts P (x ∷ xs) ys h = let rest = all-parts P xs ys h.1 in ((h.0, rest.0), rest.1)
 
@@ -104,7 +97,7 @@ module _ {X : Type 0} {lt : X → X → Bool} (o : Order lt) where
   joined-opened f below (x ∷ xs) = ap (insert lt x)
       (sorted-under (flat_map f (below x)) (flat_map (λ x. x ∷ flat_map f (below x)) xs) (xs ++ flat_map f (flat_map below xs)) (joined-opened f below xs)
       ∙ sorted-turn (flat_map f (below x)) xs (flat_map f (flat_map below xs))
-      ∙ ap (λ l. sorted lt (xs ++ l)) (sym (joined-append f (below x) (flat_map below xs))))
+      ∙ ap (λ l. sorted lt (xs ++ l)) (sym (flat_map-append f (below x) (flat_map below xs))))
 
 -- what hangs on the items of a list, wherever they stand in it
 module _ {A : Type 0} {less : A → A → Bool} (p : Order less) {X : Type 0} {lt : X → X → Bool} (o : Order lt) (f : A → List X) where

@@ -1,6 +1,6 @@
 -- What a walk has come to: its labels are the candidates in order, its nodes are the query's reach.
 use Rattle.std.proofs.Common.{◌≡◌, ℕ, suc, ◌+◌, ◌-◌, ◌<◌, ◌≤◌, Bool, true, cond, not, eqb, ltb, List, [], ◌∷◌, ◌++◌, map, length, None, sum_by, filter, Option, sym, refl, ap, ◌∙◌, ⊎_elim, arith}
-use mathlib.Core.Bool.{and_comm}
+use Rattle.std.proofs.lemmas.Grind.{flat_map-append}
 use Rattle.std.specs.List.{AllByRecursion}
 use Rattle.std.proofs.lemmas.List.{append-nil, append_assoc, length-append, length-map, drop_at, drop_all, drop_more, drop-append-le}
 use Rattle.std.proofs.lemmas.List.Elements.{filter-append}
@@ -26,11 +26,10 @@ use Rattle.neighbours.specs.Items.{ahead}
 use Rattle.neighbours.specs.Limits.{up_to_first, limit_of}
 use Rattle.neighbours.specs.Scene.{Scene, scene, label_item, node_item, shown, all_items, work_places}
 use Rattle.neighbours.specs.Walks.{of_node, is_node, Passes, found, nearer_in}
-use Rattle.neighbours.proofs.Bags.{joined-append}
 use Rattle.neighbours.proofs.Arranging.{gathered}
 use Rattle.neighbours.proofs.Answering.{distinct-others, shown-own, labels-in-order, kept-in-order}
 use Rattle.neighbours.proofs.Reaching.{ranks, in_reach-counts}
-use Rattle.neighbours.proofs.Whole.{kept-twice, whole, enough-room}
+use Rattle.neighbours.proofs.Whole.{kept-twice, kept-swap, whole, enough-room}
 use Rattle.neighbours.proofs.Scenes.{Fair, order}
 use Rattle.neighbours.proofs.Browsing.{label_of, labels_of, dists, passes, in_turn, keeps-all, kept_map, none_left, count-nodes, dists-append, dists-past, nodes}
 
@@ -92,7 +91,7 @@ module _ {D : Type 0} where
 
   module _ (lt : D → D → Bool) (limit : Limit D) (gone front : List (Item D)) (front-in : Passes lt limit front) where
     pub labels-past : labels_of (gone ++ front) ≡ labels_of gone
-    labels-past = joined-append _ gone front ∙ ap (λ l. labels_of gone ++ l) (labels-nodes front (nodes lt limit front front-in)) ∙ append-nil (labels_of gone)
+    labels-past = flat_map-append _ gone front ∙ ap (λ l. labels_of gone ++ l) (labels-nodes front (nodes lt limit front front-in)) ∙ append-nil (labels_of gone)
 
     pub nodes-past : length (filter is_node (gone ++ front)) ≡ length (filter is_node gone) + length front
     nodes-past = ap length (filter-append is_node gone front ∙ ap (λ l. filter is_node gone ++ l) (keeps-all is_node front (nodes lt limit front front-in))) ∙ length-append (filter is_node gone) front
@@ -103,13 +102,10 @@ module _ {D : Type 0} where
       dists-more = ap dists (sym (append_assoc gone front (found d l ∷ []))) ∙ dists-append (gone ++ front) (found d l ∷ []) ∙ ap (λ ds. ds ++ d ∷ []) (dists-past gone front (nodes lt limit front front-in))
 
       pub labels-more : labels_of (gone ++ (front ++ found d l ∷ [])) ≡ labels_of gone ++ l ∷ []
-      labels-more = ap labels_of (sym (append_assoc gone front (found d l ∷ []))) ∙ joined-append _ (gone ++ front) (found d l ∷ []) ∙ ap (λ ls. ls ++ l ∷ []) labels-past
+      labels-more = ap labels_of (sym (append_assoc gone front (found d l ∷ []))) ∙ flat_map-append _ (gone ++ front) (found d l ∷ []) ∙ ap (λ ls. ls ++ l ∷ []) labels-past
 
       pub nodes-more : length (filter is_node (gone ++ (front ++ found d l ∷ []))) ≡ length (filter is_node gone) + length front
       nodes-more = ap (λ l. length (filter is_node l)) (sym (append_assoc gone front (found d l ∷ []))) ∙ ap length (filter-append is_node (gone ++ front) (found d l ∷ []) ∙ append-nil (filter is_node (gone ++ front))) ∙ nodes-past
-
-kept-swap : {X : Type 0} (f g : X → Bool) (xs : List X) → filter f (filter g xs) ≡ filter g (filter f xs)
-kept-swap {X} f g xs = kept-twice g f xs ∙ ap (λ (t : X → Bool). filter t xs) (λ i x. and_comm (g x) (f x) i) ∙ sym (kept-twice f g xs)
 
 -- what passes of all items, when a part has passed
 kept-part : {D : Type 0} (s : Scene D) (k : ℕ) (part rest : List (Item D)) → in_turn s ≡ part ++ rest → AllByRecursion (λ x. passes s k x ≡ true) part → filter (passes s k) (in_turn s) ≡ part ++ filter (passes s k) rest
@@ -172,7 +168,7 @@ module _ {D : Type 0} (lt : D → D → Bool) (t : Table) (dist : Place → Plac
     -- a part of it
     module _ (part rest : List (Item D)) (e : in_turn (asking lt t dist bound q own) ≡ part ++ rest) (h : AllByRecursion (λ x. passes (asking lt t dist bound q own) k x ≡ true) part) where
       pub part-labels : sorted (closer (ranking lt dist bound) q) (candidates (ranking lt dist bound) q k (others own (plan t))) ≡ labels_of part ++ labels_of (filter (passes (asking lt t dist bound q own) k) rest)
-      part-labels = sym labels-passing ∙ ap labels_of (kept-part (asking lt t dist bound q own) k part rest e h) ∙ joined-append _ part (filter (passes (asking lt t dist bound q own) k) rest)
+      part-labels = sym labels-passing ∙ ap labels_of (kept-part (asking lt t dist bound q own) k part rest e h) ∙ flat_map-append _ part (filter (passes (asking lt t dist bound q own) k) rest)
 
       pub part-nodes : 1 ≤ k → reach (ranking lt dist bound) t q k (others own (plan t)) ≡ length (filter is_node part) + length (filter is_node (filter (passes (asking lt t dist bound q own) k) rest))
       part-nodes one =

@@ -1,9 +1,9 @@
 -- A query walks through exactly the items than which fewer than k labels are nearer.
 use Rattle.std.proofs.Common.{◌≡◌, ℕ, ◌-◌, ◌<◌, ◌≤◌, Bool, true, false, cond, not, ◌&&◌, ltb, List, [], ◌∷◌, ◌++◌, map, length, filter, sym, refl, ap, ◌∙◌, subst, ⊎_elim, arith}
 use Rattle.std.specs.List.{flat_map, AllByRecursion}
-use Rattle.std.proofs.lemmas.List.{append-nil, append_assoc, map-append, length-map, take_at, drop_at, drop_all, drop_more, get_or_past}
+use Rattle.std.proofs.lemmas.List.{append-nil, append_assoc, map-append, length-map, drop_all, drop_more, get_or_past}
 use Rattle.std.proofs.lemmas.List.Elements.{filter-append}
-use Rattle.std.proofs.ByRecursion.{All-append, All-weaker, All-take, All-drop, All-map, all_kept_by}
+use Rattle.std.proofs.ByRecursion.{All-append, All-weaker, All-map, all_kept_by}
 use Rattle.std.proofs.lemmas.Bool.{cases_Bool, cases_lt, both_ways, cond_both, cond-true, cond-false, not_from_true}
 use Rattle.std.proofs.lemmas.Bool.Decides.{nat_tests}
 use Rattle.geometry.specs.declared.label.Label.{Label}
@@ -21,6 +21,7 @@ use Rattle.neighbours.specs.Items.{ahead}
 use Rattle.neighbours.specs.Limits.{admits, up_to_first, limit_of}
 use Rattle.neighbours.specs.Scene.{Scene, label_item, node_item, shown, all_items}
 use Rattle.neighbours.specs.Walks.{is_node, Stops, Passes, nearer_in}
+use Rattle.neighbours.proofs.Bags.{all-parts}
 use Rattle.neighbours.proofs.Arranging.{count-arranged}
 use Rattle.neighbours.proofs.Whole.{kept-twice}
 use Rattle.neighbours.proofs.Scenes.{Fair, order}
@@ -46,12 +47,6 @@ abbrev pub in_turn : {D : Type 0} → Scene D → List (Item D)
 in_turn s = sorted (ahead s.lt) (all_items s)
 
 module _ {X : Type 0} where
-  all-front : (P : X → Type 0) (xs ys : List X) → AllByRecursion P (xs ++ ys) → AllByRecursion P xs
-  all-front P xs ys h = subst (AllByRecursion P) (take_at xs ys (length xs) refl) (All-take P (length xs) (xs ++ ys) h)
-
-  all_back : (P : X → Type 0) (xs ys : List X) → AllByRecursion P (xs ++ ys) → AllByRecursion P ys
-  all_back P xs ys h = subst (AllByRecursion P) (drop_at xs ys (length xs) refl) (All-drop P (length xs) (xs ++ ys) h)
-
   pub keeps-all : (p : X → Bool) (xs : List X) → AllByRecursion (λ x. p x ≡ true) xs → filter p xs ≡ xs
   keeps-all p [] h = refl
   keeps-all p (x ∷ xs) h = keeps p x xs h.0 ∙ ap (λ l. x ∷ l) (keeps-all p xs h.1)
@@ -119,14 +114,16 @@ module _ {D : Type 0} where
     rising [] x rest h = (tt, tt)
     rising (y ∷ gone) x rest h =
         let P : Item D → Type 0 = λ z. lt z.distance y.distance ≡ false in
-        let here = All-append (λ e. lt e y.distance ≡ false) (dists gone) (x.distance ∷ []) (all-dists (λ e. lt e y.distance ≡ false) gone (all-front P gone (x ∷ rest) h.0)) ((all_back P gone (x ∷ rest) h.0).0, tt) in
+        let parts = all-parts P gone (x ∷ rest) h.0 in
+        let here = All-append (λ e. lt e y.distance ≡ false) (dists gone) (x.distance ∷ []) (all-dists (λ e. lt e y.distance ≡ false) gone parts.0) (parts.1.0, tt) in
         let labels = filter (λ (z : Item D). not (is_node z)) gone in
         cond_both (not (is_node y)) (y ∷ labels) labels (λ l. Ascending lt (map (λ z. z.distance) l ++ x.distance ∷ [])) (λ t. (here, rising gone x rest h.1)) (λ f. rising gone x rest h.1)
 
     pub nodes : (limit : Limit D) (front : List (Item D)) → Passes lt limit front → AllByRecursion (λ x. is_node x ≡ true) front
     nodes limit front h = All-weaker (λ x. (is_node x ≡ true) × (admits lt limit x.distance ≡ true)) (λ x. is_node x ≡ true) (λ x e. e.0) front h
 
-    no-nearer : (x y : Item D) → ahead lt x y ≡ false → lt x.distance y.distance ≡ false
+    -- what comes no earlier is no nearer
+    pub no-nearer : (x y : Item D) → ahead lt x y ≡ false → lt x.distance y.distance ≡ false
     no-nearer x y h = ⊎_elim (λ t. absurd (both_ways (ahead lt x y) h (cond-true (lt x.distance y.distance) _ _ t))) (λ f. f) (cases_Bool (lt x.distance y.distance))
 
     by-distance : (xs : List (Item D)) → Ascending (ahead lt) xs → Ascending (λ a b. lt a.distance b.distance) xs

@@ -7,7 +7,7 @@ use Rattle.std.proofs.lemmas.List.Elements.{filter-append}
 use Rattle.std.proofs.ByRecursion.{All-push, All-weaker}
 use Rattle.std.proofs.lemmas.List.Filters.{length-filter_both}
 use Rattle.std.proofs.lemmas.List.FromFn.{length-range_with_len}
-use Rattle.std.proofs.lemmas.Bool.{cases_Bool, both_ways, false≢true, cond-true, cond-false, lt-ltb, le-ltb, and_parts, and_from, and_left, and_right, not_from_true, not_from_false}
+use Rattle.std.proofs.lemmas.Bool.{cases_Bool, both_ways, false≢true, cond-false, lt-ltb, le-ltb, and_parts, and_from, and_left, and_right, not_from_true, not_from_false}
 use Rattle.geometry.specs.declared.place.Place.{Place}
 use Rattle.geometry.specs.declared.rect.Rect.{Rect}
 use Rattle.geometry.specs.declared.label.Label.{Label}
@@ -29,11 +29,12 @@ use Rattle.neighbours.specs.Reach.{in_reach_of, reach_of}
 use Rattle.neighbours.specs.Items.{subject_before, ahead}
 use Rattle.neighbours.specs.Scene.{Scene, scene, shown, label_item, node_item, left, all_items, work_places}
 use Rattle.neighbours.specs.Walks.{of_node, is_node, Stops, Passes, found, Next, nearer_in, nodes_before}
-use Rattle.neighbours.proofs.Bags.{all_both}
+use Rattle.neighbours.proofs.Bags.{all-parts, all_both}
 use Rattle.neighbours.proofs.Scenes.{Fair, order}
 use Rattle.neighbours.proofs.Whole.{boxed-once, whole, enough-room}
 use Rattle.neighbours.proofs.Arranging.{count-arranged}
 use Rattle.neighbours.proofs.Reaching.{ranks, in-reach-of}
+use Rattle.neighbours.proofs.Browsing.{no-nearer}
 
 -- what a walk has passed, with i labels in it: all of it is nearer than e, of each node fewer than k labels are nearer,
 -- and opening the nodes moved the meter from m to n; rest is still to come
@@ -68,10 +69,6 @@ module _ {X : Type 0} where
       (λ (e : p (f y) ≡ false). omega (arith, ap length (leaves p (f y) (map f ys) e), ap length (leaves (λ y. p (f y)) y ys e), count_map p f ys))
       (cases_Bool (p (f y)))
 
-  all-last : (P : X → Type 0) (xs ys : List X) → AllByRecursion P (xs ++ ys) → AllByRecursion P ys
-  all-last P [] ys h = h
-  all-last P (x ∷ xs) ys h = all-last P xs ys h.1
-
   -- of a list that rises, none of the rest comes before any of the front
   module _ (lt : X → X → Bool) where
     rest-rises : (xs ys : List X) → Ascending lt (xs ++ ys) → Ascending lt ys
@@ -84,11 +81,7 @@ module _ {X : Type 0} where
         any : (ys : List X) → AllByRecursion (λ y. Unit {0}) ys
         any [] = tt
         any (y ∷ ys) = (tt, any ys)
-    rest-behind (x ∷ xs) ys a = all_both (λ y. lt y x ≡ false) _ ys (all-last _ xs ys a.0) (rest-behind xs ys a.1)
-
--- what comes no earlier is no nearer
-no-nearer : {D : Type 0} (lt : D → D → Bool) (y x : Item D) → ahead lt y x ≡ false → lt y.distance x.distance ≡ false
-no-nearer lt y x h = ⊎_elim (λ t. absurd (both_ways (ahead lt y x) h (cond-true (lt y.distance x.distance) _ _ t))) (λ f. f) (cases_Bool (lt y.distance x.distance))
+    rest-behind (x ∷ xs) ys a = all_both (λ y. lt y x ≡ false) _ ys (all-parts _ xs ys a.0).1 (rest-behind xs ys a.1)
 
 -- a node that does not come before a label is farther
 node-first : (a b : Subject) → of_node a ≡ true → not (of_node b) ≡ true → subject_before a b ≡ true

@@ -2,12 +2,12 @@
 use Rattle.std.proofs.Common.{◌≡◌, ℕ, zero, suc, ◌<◌, ◌≤◌, Bool, false, List, [], ◌∷◌, ◌++◌, length, sym, ap, ◌∙◌, subst, arith, length-append}
 use Rattle.std.specs.List.{flat_map, AllByRecursion}
 use Rattle.std.proofs.ByRecursion.{All-append}
+use Rattle.std.proofs.lemmas.Grind.{flat_map-append}
 use Rattle.queue.specs.Order.{Order, sorted}
 use Rattle.queue.proofs.Sorting.{least-sorted, chain-not}
 use Rattle.queue.proofs.Ascending.{length-sorted}
 use Rattle.neighbours.specs.Forest.{flatten, Hangs, tree, still}
 use Rattle.neighbours.proofs.Bags.{
-  joined-append,
   joined_same,
   all-joined,
   all_both,
@@ -67,7 +67,7 @@ module _ {X : Type 0} {lt : X → X → Bool} {below : X → List X} {rank : X �
       ∙ opened x (sorted lt after) gs'.0 gs'.1 (head-least o before x (sorted lt after) e)
       ∙ ap (λ l. x ∷ l) (sorted-under o (flat_map f (below x)) (flat_map f (sorted lt after)) (flat_map f after) (joined-sorted o o f after)
       ∙ sorted-swap-parts o (flat_map f (below x)) (flat_map f after)
-      ∙ ap (sorted lt) (sym (joined-append f after (below x))))
+      ∙ ap (sorted lt) (sym (flat_map-append f after (below x))))
 
   pub turn-good : (before after : List X) (x : X) → sorted lt before ≡ x ∷ sorted lt after → AllByRecursion Good (sorted lt before) → AllByRecursion Good (sorted lt (after ++ below x))
   turn-good before after x e gs =

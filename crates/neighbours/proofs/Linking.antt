@@ -1,5 +1,6 @@
 -- Of any two labels of a plan each answers the other or neither does.
 use Rattle.std.proofs.Common.{◌≡◌, ℕ, zero, suc, ◌+◌, Bool, true, false, cond, not, ◌&&◌, ◌||◌, eqb, ltb, List, [], ◌∷◌, map, length, Some, filter, sym, refl, ap, ◌∙◌, subst, ⊎_elim, arith}
+use mathlib.Core.Bool.{and_comm}
 use Rattle.std.specs.List.{ContainsAt as Has, AllByRecursion}
 use Rattle.std.proofs.lemmas.Bool.{cases_Bool, both_ways, cond_both, not-false, eq-eqb, or_left}
 use Rattle.std.proofs.ByRecursion.{all-has, All-weaker, all_kept_by}
@@ -15,27 +16,11 @@ use Rattle.neighbours.specs.Ranking.{Seen, spot, Ranking, nearer_to}
 use Rattle.neighbours.specs.Neighbours.{others, nearer_than, candidates, confirmed, mutuals, closer, in_order, mutual_answers}
 use Rattle.neighbours.specs.Links.{among, answers, ends, Links}
 use Rattle.neighbours.proofs.Arranging.{gathered}
+use Rattle.neighbours.proofs.Whole.{kept-twice, kept-swap}
 use Rattle.neighbours.proofs.Answering.{absent-all, distinct-parts}
 
 eqb_swap : (a b : ℕ) → eqb a b ≡ eqb b a
 eqb_swap a b = grind (arith, nat_tests)
-
--- two tests one after the other
-and-swap : (a b : Bool) → (a && b) ≡ (b && a)
-and-swap true true = refl
-and-swap true false = refl
-and-swap false true = refl
-and-swap false false = refl
-
-kept-twice : {X : Type 0} (f g : X → Bool) (xs : List X) → filter f (filter g xs) ≡ filter (λ x. g x && f x) xs
-kept-twice f g [] = refl
-kept-twice f g (x ∷ xs) = ⊎_elim
-    (λ (t : g x ≡ true). ap (filter f) (keeps g x xs t) ∙ ap (λ l. cond (f x) (x ∷ l) l) (kept-twice f g xs) ∙ ap (λ b. cond (b && f x) (x ∷ filter (λ x. g x && f x) xs) (filter (λ x. g x && f x) xs)) (sym t))
-    (λ (e : g x ≡ false). ap (filter f) (leaves g x xs e) ∙ kept-twice f g xs ∙ ap (λ b. cond (b && f x) (x ∷ filter (λ x. g x && f x) xs) (filter (λ x. g x && f x) xs)) (sym e))
-    (cases_Bool (g x))
-
-kept-swap : {X : Type 0} (f g : X → Bool) (xs : List X) → filter f (filter g xs) ≡ filter g (filter f xs)
-kept-swap f g xs = kept-twice f g xs ∙ ap (λ (t : _ → Bool). filter t xs) (λ i x. and-swap (g x) (f x) i) ∙ sym (kept-twice g f xs)
 
 -- a test that passes none of what another leaves out
 kept_less : {X : Type 0} (f g : X → Bool) (xs : List X) → AllByRecursion (λ x. g x ≡ false → f x ≡ false) xs → filter f (filter g xs) ≡ filter f xs
@@ -99,7 +84,7 @@ module _ (p : Label) where
 
 kept-others : (n : ℕ) (f : Label → Bool) (ls : List Label) → filter f (others (Some n) ls) ≡ filter (λ l. not (eqb l.number n) && f l) ls
 unfolding others
-kept-others n f ls = kept-twice f (λ l. not (eqb l.number n)) ls
+kept-others n f ls = kept-twice (λ l. not (eqb l.number n)) f ls
 
 module _ (near : Ranking) where
   -- how many of the labels are nearer to q than p is
@@ -115,7 +100,7 @@ module _ (near : Ranking) where
       let few : Label → Bool = candidate (nearer_to near q.place) k rest in
       let sure : Label → Bool = confirmed near q.place m rest in
       among-in-order (closer near q.place) p.number (filter sure (filter few rest))
-      ∙ ap (λ l. among p.number (numbers l)) (kept-twice sure few rest ∙ kept-others q.number (λ l. few l && sure l) (plan t))
+      ∙ ap (λ l. among p.number (numbers l)) (kept-twice few sure rest ∙ kept-others q.number (λ l. few l && sure l) (plan t))
       ∙ among-kept p (λ l. not (eqb l.number q.number) && (few l && sure l)) (plan t) d h
 
   module _ (never : (a : Place) (s : Seen) → near a s s ≡ false) where
@@ -135,7 +120,7 @@ module _ (near : Ranking) where
         let one = ahead-less (plan t) p q d hp in
         let other = sym (ahead-less (plan t) q p d hq) in
         answers-when t p q k m d hp
-        ∙ (λ i. not (eqb_swap p.number q.number i) && and-swap (ltb (one i) k) (ltb (other i) m) i)
+        ∙ (λ i. not (eqb_swap p.number q.number i) && and_comm (ltb (one i) k) (ltb (other i) m) i)
         ∙ sym (answers-when t q p m k d hq)
 
 pub links : (near : Ranking) (t : Table) → ((a : Place) (s : Seen) → near a s s ≡ false) → distinct (plan t) ≡ true → Links near t

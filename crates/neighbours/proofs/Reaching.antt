@@ -10,7 +10,8 @@ use Rattle.queue.proofs.Keeping.{keeps, leaves, keeps-more}
 use Rattle.geometry.specs.declared.place.Place.{Place}
 use Rattle.geometry.specs.declared.rect.Rect.{Rect}
 use Rattle.geometry.specs.declared.label.Label.{Label}
-use Rattle.neighbours.specs.Ranking.{Seen, spot, area, Ranking, far_off, ranking}
+use Rattle.geometry.specs.Plane.{holds, covering}
+use Rattle.neighbours.specs.Ranking.{Seen, spot, area, Ranking, far_off, ranking, Sound}
 use Rattle.neighbours.specs.Neighbours.{nearer_than}
 use Rattle.neighbours.specs.Reach.{no_farther, least, kth, at_most, in_reach, in_reach_of}
 
@@ -23,6 +24,17 @@ pub ranks : {D : Type 0} {lt : D → D → Bool} → Order lt → (dist : Place 
 ranks o dist bound a = record {
   one_way = λ s t. one_way o (far_off dist bound a s) (far_off dist bound a t);
   chain-not = λ s t u. chain-not o (far_off dist bound a s) (far_off dist bound a t) (far_off dist bound a u);
+}
+
+-- the ranking of every measure is sound
+pub sound : {D : Type 0} {lt : D → D → Bool} → Order lt → (dist : Place → Place → D) (bound : Place → Rect → D)
+    → ((a p : Place) (b : Rect) → holds b p ≡ true → lt (dist a p) (bound a b) ≡ false) → ((a : Place) (b c : Rect) → covering b c ≡ true → lt (bound a c) (bound a b) ≡ false)
+    → Sound (ranking lt dist bound)
+sound o dist bound below inner = record {
+  one_way = λ a. (ranks o dist bound a).one_way;
+  chain = λ a. (ranks o dist bound a).chain-not;
+  below = below;
+  inner = inner;
 }
 
 pub ranks-never : {Y : Type 0} {f : Y → Y → Bool} → Ranks f → (s : Y) → f s s ≡ false

@@ -1,7 +1,10 @@
 -- A search that starts at the root comes to every item of the tree, once, and its work list has room.
 use Rattle.std.proofs.Common.{◌≡◌, ℕ, suc, ◌*◌, ◌<◌, ◌≤◌, Bool, true, false, cond, not, ◌&&◌, ltb, List, [], ◌∷◌, ◌++◌, map, length, take, Some, None, filter, Option, sym, refl, ap, ◌∙◌, subst, ⊎_elim, arith, length-append}
 use Rattle.std.specs.List.{range_with_len, flat_map, AllByRecursion}
+use mathlib.Core.Bool.{and_comm}
 use Rattle.std.proofs.lemmas.List.{append-nil}
+use Rattle.std.proofs.lemmas.List.Folds.{flat_map-map}
+use Rattle.std.proofs.lemmas.Grind.{flat_map-append}
 use Rattle.std.proofs.ByRecursion.{All-append, All-map, All-weaker, All-from_get_or}
 use Rattle.std.proofs.lemmas.List.FromFn.{fill_by_all}
 use Rattle.std.proofs.lemmas.Bool.{cases_Bool, cases_order, cases_lt}
@@ -22,7 +25,7 @@ use Rattle.neighbours.specs.Neighbours.{left_out, others}
 use Rattle.neighbours.specs.Items.{ahead}
 use Rattle.neighbours.specs.Forest.{tree, still}
 use Rattle.neighbours.specs.Scene.{Scene, shows, shown, label_item, node_item, item_of, listed, items_in, kids, height, Good, root, left, all_items, work_places, Waiting}
-use Rattle.neighbours.proofs.Bags.{joined-append, joined-map, joined-joined, all-joined, all_both, sorted-turn, joined-alike}
+use Rattle.neighbours.proofs.Bags.{joined-joined, all-joined, all_both, sorted-turn, joined-alike}
 use Rattle.neighbours.proofs.Finding.{all-items}
 use Rattle.neighbours.proofs.Counting.{occurs, occurs-first, occurs-past, occurs-none, occurs-map, same_numbers, counting-out, counting-once}
 use Rattle.neighbours.proofs.Scenes.{Fair, order, hangs, left-alike}
@@ -34,6 +37,10 @@ kept-twice p q (x ∷ xs) = ⊎_elim
     (λ (t : p x ≡ true). ap (filter q) (keeps p x xs t) ∙ ap (λ l. cond (q x) (x ∷ l) l) (kept-twice p q xs) ∙ ap (λ b. cond (b && q x) (x ∷ filter (λ x. p x && q x) xs) (filter (λ x. p x && q x) xs)) (sym t))
     (λ (f : p x ≡ false). ap (filter q) (leaves p x xs f) ∙ kept-twice p q xs ∙ ap (λ b. cond (b && q x) (x ∷ filter (λ x. p x && q x) xs) (filter (λ x. p x && q x) xs)) (sym f))
     (cases_Bool (p x))
+
+-- two tests in either order
+pub kept-swap : {X : Type 0} (p q : X → Bool) (xs : List X) → filter p (filter q xs) ≡ filter q (filter p xs)
+kept-swap {X} p q xs = kept-twice q p xs ∙ ap (λ (t : X → Bool). filter t xs) (λ i x. and_comm (q x) (p x) i) ∙ sym (kept-twice p q xs)
 
 pub shown-kept : (v : View) (ls : List Label) → shown v ls ≡ filter (λ l. shows v l.number) ls
 unfolding shown others
@@ -118,12 +125,12 @@ module _ {D : Type 0} (s : Scene D) (fair : Fair s) where
 
   all-kids : flat_map (kids s) (all_items s) ≡ flat_map kids_of (map (λ b. b.0) (boxed s.table))
   unfolding all_items
-  all-kids = joined-append (kids s) (map (node_item s.near) (boxed s.table)) (map (label_item s.to) (shown s.view (plan s.table)))
+  all-kids = flat_map-append (kids s) (map (node_item s.near) (boxed s.table)) (map (label_item s.to) (shown s.view (plan s.table)))
       ∙ (λ i. node-kids (boxed s.table) i ++ no_kids (shown s.view (plan s.table)) i) ∙ append-nil _
 
   by_number : flat_map kids_of (range_with_len 0 (node_count s.table)) ≡ flat_map items_of slots
   unfolding items_in
-  by_number = sym (joined-map (flat_map items_of) (node_at s.table) (range_with_len 0 (node_count s.table)))
+  by_number = sym (flat_map-map (flat_map items_of) (node_at s.table) (range_with_len 0 (node_count s.table)))
       ∙ ap (flat_map (flat_map items_of)) (sym (fill_by_all (node_at s.table) s.table.nodes (node_count s.table) [] refl (λ k l. refl)))
       ∙ joined-joined items_of (λ n. n) s.table.nodes
 
