@@ -1,0 +1,9 @@
+pub mod Around
+pub mod Apart
+pub mod Through
+pub mod Layering
+pub mod Places
+pub mod Changing
+pub mod Matching
+pub mod Bounding
+pub mod Running
