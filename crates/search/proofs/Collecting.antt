@@ -27,6 +27,7 @@ use Rattle.neighbours.specs.Neighbours.{others, candidates, confirmed, mutuals, 
 use Rattle.neighbours.specs.Reach.{reach, reach_of, nearest_openings, mutual_openings}
 use Rattle.neighbours.specs.Scene.{Scene, label_item, node_item, shown, left, all_items, work_places}
 use Rattle.neighbours.specs.Walks.{is_node, Passes, Stops, found, Next}
+use Rattle.neighbours.proofs.Bags.{all-parts}
 use Rattle.neighbours.proofs.Scenes.{Fair}
 use Rattle.neighbours.proofs.Arranging.{all-arranged}
 use Rattle.neighbours.proofs.Answering.{kept-in-order, distinct-kept, distinct-others}
@@ -106,10 +107,6 @@ all-stand s = all-arranged (ahead s.lt) (λ x. Stands s x.distance x.subject) (a
     labels-stand : (ls : List Label) → AllByRecursion (λ x. Stands s x.distance x.subject) (map (label_item s.to) ls)
     labels-stand [] = tt
     labels-stand (l ∷ ls) = (refl, labels-stand ls)
-
-all_there : {X : Type 0} (P : X → Type 0) (xs : List X) (x : X) (ys : List X) → AllByRecursion P (xs ++ x ∷ ys) → P x
-all_there P [] x ys h = h.0
-all_there P (z ∷ xs) x ys h = all_there P xs x ys h.1
 
 module _ {D : Type 0} (lt : D → D → Bool) (t : Table) (dist : Place → Place → D) (bound : Place → Rect → D) (q : Place) (own : Option ℕ) (k : ℕ) (confirming : Option ℕ) where
   abbrev scene-of : Scene D
@@ -225,8 +222,9 @@ module _ {D : Type 0} (lt : D → D → Bool) (t : Table) (dist : Place → Plac
         nodes-are = nodes-more lt (limit_of k (dists c.gone)) c.gone next.0 front-in d l
 
         pub next-stands : d ≡ dist q l.place
-        next-stands = all_there (λ x. Stands scene-of x.distance x.subject) (c.gone ++ next.0) (found d l) coming
-            (subst (AllByRecursion (λ x. Stands scene-of x.distance x.subject)) (c.split ∙ ap (λ w. c.gone ++ w) next.1 ∙ sym (append_assoc c.gone next.0 (found d l ∷ coming))) (all-stand scene-of))
+        next-stands =
+            (all-parts (λ x. Stands scene-of x.distance x.subject) (c.gone ++ next.0) (found d l ∷ coming)
+            (subst (AllByRecursion (λ x. Stands scene-of x.distance x.subject)) (c.split ∙ ap (λ w. c.gone ++ w) next.1 ∙ sym (append_assoc c.gone next.0 (found d l ∷ coming))) (all-stand scene-of))).1.0
 
         pub next-meter : n' + work_places t ≤ m + 1100000
         next-meter = omega (arith, next.3, c.meter, nodes-are, few-parts scene-of fair walked coming walked-split, fair.lawful.few, costs-few (labels_of c.gone), few-gone)

@@ -1,5 +1,5 @@
 -- A search goes on from node to node to the next label.
-use Rattle.std.proofs.Common.{◌≡◌, ℕ, ◌+◌, ◌<◌, ◌≤◌, Bool, true, false, List, [], ◌∷◌, ◌++◌, length, take, Some, None, sym, ap, ◌∙◌, arith, length-append}
+use Rattle.std.proofs.Common.{◌≡◌, ℕ, ◌+◌, ◌<◌, ◌≤◌, Bool, true, false, List, [], ◌∷◌, ◌++◌, length, take, Some, None, sym, refl, ap, ◌∙◌, arith, length-append}
 use Rattle.std.proofs.lemmas.List.{append_assoc}
 use Rattle.std.proofs.ByRecursion.{All-push}
 use Rattle.geometry.specs.declared.label.Label.{Label}
@@ -42,6 +42,10 @@ module _ {D : Type 0} (s : Scene D) where
     pub passes : Passes s.lt limit front
     pub many : n ≡ m + length front
     pub waits : Waiting s items len
+
+  -- no node is passed at the start
+  pub walked_none : (limit : Limit D) (items : List (Item D)) (len m : ℕ) → Waiting s items len → Walked limit (left s (take len items)) items len m m
+  walked_none limit items len m w = record { front = []; split = refl; passes = tt; many = omega arith; waits = w }
 
   module _ (fair : Fair s) (limit : Limit D) (before : List (Item D)) {xs ys : List (Item D)} {len rest : ℕ} {x : Item D} {m n : ℕ} (w : Walked limit before xs len m n) (t : Taken s xs ys len rest x) where
     -- the openings so far, and all that may come, are no more than the items from the start

@@ -14,7 +14,8 @@ use neighbours::{Item, Subject};
 use queue::{Ranked, push};
 
 // Here and in what calls these, the queue is the first `len` of `items`, a heap that is changed in place: one list that
-// the caller lends for the whole query is a rule of the project.
+// the caller lends for the whole query is a rule of the project. The two stand apart: a struct that borrows the list
+// would be taken apart at each call of `push` and `pop`.
 impl<M: Measure> Sight<'_, M> {
     // The item of a slot, if it has one that the view shows.
     fn item_of(&self, slot: Slot) -> Option<Item<M::Distance>>
@@ -50,8 +51,8 @@ impl<M: Measure> Sight<'_, M> {
         }
     }
 
-    // Pushes the items of the open node, and gives the length of the queue then. The loop goes over the places of the
-    // slots: a list of the slots would be made only to be gone over once.
+    // Pushes the items of the open node, and gives the length of the queue then. The loop is no fold: its closure would
+    // hold the list, and the closure's contract would be the loop's invariant again.
     fn push_items<S: NodeStore>(
         &self,
         store: &S,

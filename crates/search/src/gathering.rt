@@ -46,7 +46,6 @@ impl<M: Measure> Query<'_, M> {
         second: &mut [Item<M::Distance>],
         answers: &mut [u32],
     ) -> Option<usize>
-        requires count { 1 ≤ self.now.k }
         requires room { work_places (S.table store.old) ≤ length work.old }
         requires second { Roomy (S.table store.old) self.now.confirming (length second.old) }
         requires meter { S.metered store.old ≤ 900000 }

@@ -2,12 +2,13 @@
 ghost use Rattle.std.specs.Prelude.{◌≡◌, ◌≤◌, length, IfOk, None};
 ghost use Rattle.geometry.specs.Plane.{place_at};
 ghost use Rattle.index.specs.Laws.{Inside};
-ghost use Rattle.neighbours.specs.Ranking.{ranking};
+ghost use Rattle.neighbours.specs.Ranking.{ranking, Sound};
 ghost use Rattle.neighbours.specs.Neighbours.{nearest_answers, mutual_answers};
 ghost use Rattle.neighbours.specs.Reach.{nearest_openings, mutual_openings};
 ghost use Rattle.neighbours.specs.Links.{Links};
 ghost use Rattle.neighbours.specs.Scene.{work_places, spare_item};
 ghost use Rattle.neighbours.specs.Queries.{refused, refused_nearest, refused_mutual, outcome, filled};
+ghost use Rattle.runs.specs.Runs.{Step, asking_nearest, asking_mutual, state_of};
 ghost use Rattle.search.specs.Answers.{Roomy, all_counted, checked, concluded, admitted};
 ghost use Rattle.search.specs.Asking.{ranking_of, answers_to, openings_for};
 
@@ -43,10 +44,7 @@ fn check_counts(counts: &[u32]) -> Result<(), Refusal>
     if counts.iter().all(|k| counted(*k)) {
         return Ok(());
     }
-    Err(Refusal {
-        reason: Reason::BadCount,
-        place: 0,
-    })
+    Err(Reason::BadCount.into())
 }
 
 // The place of a query, or its refusal: of the counts first, then of the place, then of the shortest work list.
@@ -75,10 +73,7 @@ fn admit<S: NodeStore>(
 fn conclude<S: NodeStore>(store: &S, count: Option<usize>) -> Result<Told, Refusal>
     ensures { result ≡ concluded count (S.metered store.now) }
 {
-    let count = count.ok_or(Refusal {
-        reason: Reason::ShortAnswerList,
-        place: 0,
-    })?;
+    let count = count.ok_or(Reason::ShortAnswerList)?;
     Ok(Told {
         count,
         opened: store.meter(),
@@ -95,7 +90,6 @@ impl<M: Measure> Query<'_, M> {
         answers: &mut [u32],
     ) -> Result<Told, Refusal>
         requires zeroed { S.metered store.old ≡ 0 }
-        requires count { 1 ≤ self.now.k }
         requires room { work_places (S.table store.old) ≤ length work.old }
         requires second { Roomy (S.table store.old) self.now.confirming (length second.old) }
         ensures told { let near = ranking_of M.Distance.Ranked.precedes M.dist M.bound self.now in result ≡ outcome None (answers_to near (S.table store.old) self.now) (openings_for near (S.table store.old) self.now) (length answers.old) }
@@ -129,6 +123,8 @@ pub fn nearest<S: NodeStore, M: Measure>(
     ensures opened { Inside (S.table store.new) (S.opened store.new) }
     ensures bounded { S.metered store.new ≤ 2000000 }
     ensures work { length work.new ≡ length work.old }
+    ensures step { Step (asking_nearest k (length work.old) (record { near = ranking M.Distance.Ranked.precedes (M.dist measure.now) (M.bound measure.now); x = x; y = y; own = own; list = answers.old }) (record { told = result; list = answers.new })) (state_of ⟦<S as NodeStore>⟧ store.old) (state_of ⟦<S as NodeStore>⟧ store.new) }
+    ensures sound { Sound (ranking M.Distance.Ranked.precedes (M.dist measure.now) (M.bound measure.now)) }
 {
     let query = Query {
         measure,
@@ -165,6 +161,8 @@ pub fn mutual<S: NodeStore, M: Measure>(
     ensures opened { Inside (S.table store.new) (S.opened store.new) }
     ensures bounded { S.metered store.new ≤ 2000000 }
     ensures work { (length work.new ≡ length work.old) × (length second.new ≡ length second.old) }
+    ensures step { Step (asking_mutual k1 k2 (length work.old) (length second.old) (record { near = ranking M.Distance.Ranked.precedes (M.dist measure.now) (M.bound measure.now); x = x; y = y; own = own; list = answers.old }) (record { told = result; list = answers.new })) (state_of ⟦<S as NodeStore>⟧ store.old) (state_of ⟦<S as NodeStore>⟧ store.new) }
+    ensures sound { Sound (ranking M.Distance.Ranked.precedes (M.dist measure.now) (M.bound measure.now)) }
 {
     let shortest = work.len().min(second.len());
     let query = Query {

@@ -1,3 +1,5 @@
+ghost use Rattle.std.specs.Prelude.{◌≤◌};
+
 use geometry::Place;
 
 // A query as it was admitted: by which measure and from where, and whose label is left out. Fewer than `k` others are
@@ -9,4 +11,5 @@ pub(crate) struct Query<'a, M> {
     pub own: Option<u32>,
     pub k: u32,
     pub confirming: Option<u32>,
+    ghost counted: { 1 ≤ k },
 }

@@ -1,4 +1,4 @@
-use Rattle.std.proofs.Common.{◌≡◌, [], ◌∷◌, length, Err, sym, refl, ap, ◌∙◌, w32, SFits}
+use Rattle.std.proofs.Common.{rules, ◌≡◌, [], ◌∷◌, length, Err, sym, refl, ap, ◌∙◌, w32, SFits}
 use Rattle.std.proofs.lemmas.Result.{err_from_is_err_and}
 use Rattle.std.proofs.lemmas.Int.{to_z-of_z}
 use Rattle.geometry.specs.Plane.{place_at}
@@ -7,8 +7,9 @@ use Rattle.neighbours.specs.Neighbours.{nearest_answers}
 use Rattle.neighbours.specs.Reach.{nearest_openings}
 use Rattle.neighbours.specs.Scene.{work_places}
 use Rattle.neighbours.specs.Queries.{refused, refused_nearest}
+use Rattle.neighbours.proofs.Reaching.{sound}
 use Rattle.search.specs.Answers.{all_counted, admitted}
-use Rattle.search.proofs.Outcomes.{one-count, refused-told, refuses}
+use Rattle.search.proofs.Outcomes.{one-count, refused-told, refuses, steps}
 use Rattle.search.proofs.queries.nearest.Goals as goal
 
 pub returns-in_err-admit : goal.returns-in_err-admit
@@ -27,13 +28,28 @@ returns-in_err-admit g c =
     let told : Err e ≡ admitted (refused (all_counted (a.k ∷ [])) a.x a.y (work_places t) places) a.x a.y = simp to_z-of_z at c.in_err-admit.ensures in
     let why = (λ i. refused (sym (one-count a.k) i) a.x a.y (work_places t) places) ∙ refused-told _ a.x a.y e told in
     let r = refuses (refused_nearest t a.x a.y a.k places) e (nearest_answers near t q a.own a.k) a.answers.now (nearest_openings near t q a.own a.k) (length a.answers.now) why in
+    let inside = g.met.S.NodeStore.within a.store.now in
+    let bounded = g.met.S.NodeStore.bounded a.store.now in
     record {
       told = is ∙ r.0;
       answers = r.1;
       metered = rw is tt;
       table = refl;
       frames = refl;
-      opened = g.met.S.NodeStore.within a.store.now;
-      bounded = g.met.S.NodeStore.bounded a.store.now;
+      opened = inside;
+      bounded = bounded;
       work = refl;
+      step = steps (is ∙ r.0) r.1 (rw is tt) refl refl (record { opened = inside; meter = bounded });
+      sound = sound g.met.M.Distance.Ranked.ordered (m.dist a.measure.now) (m.bound a.measure.now) (g.met.M.Measure.below a.measure.now) (g.met.M.Measure.inner a.measure.now);
     }
+
+pub returns-clause-step : goal.returns-clause-step
+returns-clause-step g c =
+    let after = c.answer.new.store in
+    steps (search rules) (search rules) (search rules) (search rules) (search rules) (record { opened = g.met.S.NodeStore.within after; meter = g.met.S.NodeStore.bounded after })
+
+pub returns-clause-sound : goal.returns-clause-sound
+returns-clause-sound g c =
+    let a = c.args in
+    let m = g.M.Measure in
+    sound g.met.M.Distance.Ranked.ordered (m.dist a.measure.now) (m.bound a.measure.now) (g.met.M.Measure.below a.measure.now) (g.met.M.Measure.inner a.measure.now)

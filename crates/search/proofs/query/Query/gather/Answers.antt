@@ -41,7 +41,7 @@ loop-next-init g c =
     let bound = g.M.Measure.bound q.measure.now in
     let t = store.table a.store.now in
     let m0 = store.metered a.store.now in
-    record { table = refl; frames = refl; waits = c.start-len.ensures.waiting; collected = subst (λ w. Collected lt t dist bound q.from q.own q.k q.confirming a.answers.now a.answers.now 0 0 Anywhere w m0 m0) (sym c.start-len.ensures.whole) (collected-none lt t dist bound q.from q.own q.k q.confirming (fair g at) c.requires.count a.answers.now m0) }
+    record { table = refl; frames = refl; waits = c.start-len.ensures.waiting; collected = subst (λ w. Collected lt t dist bound q.from q.own q.k q.confirming a.answers.now a.answers.now 0 0 Anywhere w m0 m0) (sym c.start-len.ensures.whole) (collected-none lt t dist bound q.from q.own q.k q.confirming (fair g at) a.self.now.counted a.answers.now m0) }
 
 pub next_label-requires : goal.next_label-requires
 next_label-requires g c =
@@ -56,7 +56,7 @@ next_label-requires g c =
     let l = c.loop-next in
     record {
       waiting = subst (λ t. Waiting (sees g at t) l.work l.len) (sym l.invariant.table) l.invariant.waits;
-      meter = subst (λ t. store.metered l.store + length (left (sees g at t) (take l.len l.work)) ≤ 2000000) (sym l.invariant.table) (omega (arith, collected-meter lt t dist bound q.from q.own q.k q.confirming (fair g at) c.requires.count l.invariant.collected, c.requires.meter));
+      meter = subst (λ t. store.metered l.store + length (left (sees g at t) (take l.len l.work)) ≤ 2000000) (sym l.invariant.table) (omega (arith, collected-meter lt t dist bound q.from q.own q.k q.confirming (fair g at) a.self.now.counted l.invariant.collected, c.requires.meter));
     }
 
 pub overflow_add-came : goal.overflow_add-came
@@ -70,7 +70,7 @@ overflow_add-came g c =
     let bound = g.M.Measure.bound q.measure.now in
     let t = store.table a.store.now in
     let l = c.loop-next in
-    let few = collected-few lt t dist bound q.from q.own q.k q.confirming (fair g at) c.requires.count l.invariant.collected in
+    let few = collected-few lt t dist bound q.from q.own q.k q.confirming (fair g at) a.self.now.counted l.invariant.collected in
     search rules
 
 pub is_answer-requires : goal.is_answer-requires
@@ -91,9 +91,9 @@ is_answer-requires g c =
     let same = c.next_label.ensures.table ∙ l.invariant.table in
     let long : length l.second ≡ length a.second.now = omega arith in
     record {
-      distance = next-stands lt t dist bound q.from q.own q.k q.confirming (fair g at) c.requires.count l.invariant.collected items n x told;
+      distance = next-stands lt t dist bound q.from q.own q.k q.confirming (fair g at) a.self.now.counted l.invariant.collected items n x told;
       room = coe 1 0 (i. Roomy (same i) q.confirming (long i)) c.requires.second;
-      meter = subst (λ t. n + work_places t ≤ 2000000) (sym same) (omega (arith, next-meter lt t dist bound q.from q.own q.k q.confirming (fair g at) c.requires.count l.invariant.collected items n x told, c.requires.meter));
+      meter = subst (λ t. n + work_places t ≤ 2000000) (sym same) (omega (arith, next-meter lt t dist bound q.from q.own q.k q.confirming (fair g at) a.self.now.counted l.invariant.collected items n x told, c.requires.meter));
     }
 
 pub returns-in_err-count : goal.returns-in_err-count
@@ -114,7 +114,7 @@ returns-in_err-count g c =
     let same = c.next_label.ensures.table ∙ l.invariant.table in
     let yes' = (λ i. accepts (ranking lt dist bound) (sym same i) q.from q.own q.confirming x.label) ∙ sym c.is_answer.ensures.value ∙ c.if-is_answer.true in
     let full = put_full l.answers l.count (sym c.put_answer.ensures.told ∙ c.in_err-count.was) in
-    let over = overflows lt t dist bound q.from q.own q.k q.confirming (fair g at) c.requires.count l.invariant.collected items n x told yes' (omega (arith, full)) in
+    let over = overflows lt t dist bound q.from q.own q.k q.confirming (fair g at) a.self.now.counted l.invariant.collected items n x told yes' (omega (arith, full)) in
     record {
       table = c.is_answer.ensures.table ∙ same;
       frames = c.is_answer.ensures.frames ∙ c.next_label.ensures.frames ∙ l.invariant.frames;
@@ -142,7 +142,7 @@ loop-next-preserved-then-is_answer g c =
     let yes' = (λ i. accepts (ranking lt dist bound) (sym same i) q.from q.own q.confirming x.label) ∙ sym c.is_answer.ensures.value ∙ c.if-is_answer.true in
     let paid : store.metered c.is_answer.new.store ≡ n + costs (ranking lt dist bound) t q.from q.own q.confirming x.label = c.is_answer.ensures.metered ∙ (λ i. n + costs (ranking lt dist bound) (same i) q.from q.own q.confirming x.label) in
     let put = put-room l.answers l.count c.in_ok-count.count (sym c.put_answer.ensures.told ∙ c.in_ok-count.was) in
-    let e = takes lt t dist bound q.from q.own q.k q.confirming (fair g at) c.requires.count l.invariant.collected items n x told yes' (omega (arith, put.0)) in
+    let e = takes lt t dist bound q.from q.own q.k q.confirming (fair g at) a.self.now.counted l.invariant.collected items n x told yes' (omega (arith, put.0)) in
     let list : c.put_answer.new.answers ≡ set l.answers l.count x.label.number = c.put_answer.ensures.answers ∙ ap (set l.answers l.count) c.number.ensures in
     record {
       table = c.is_answer.ensures.table ∙ same;
@@ -168,7 +168,7 @@ loop-next-preserved g c =
     let told = came g (goal.at.loop-next-preserved g c).In-Some in
     let same = c.next_label.ensures.table ∙ l.invariant.table in
     let yes' = (λ i. accepts (ranking lt dist bound) (sym same i) q.from q.own q.confirming x.label) ∙ sym c.is_answer.ensures.value ∙ c.if-is_answer.false in
-    let e = passes_over lt t dist bound q.from q.own q.k q.confirming (fair g at) c.requires.count l.invariant.collected items n x told yes' in
+    let e = passes_over lt t dist bound q.from q.own q.k q.confirming (fair g at) a.self.now.counted l.invariant.collected items n x told yes' in
     let paid : store.metered c.is_answer.new.store ≡ n + costs (ranking lt dist bound) t q.from q.own q.confirming x.label = c.is_answer.ensures.metered ∙ (λ i. n + costs (ranking lt dist bound) (same i) q.from q.own q.confirming x.label) in
     record {
       table = c.is_answer.ensures.table ∙ same;
@@ -191,5 +191,5 @@ returns g c =
     let items = c.next_label.new.items in
     let n = store.metered c.next_label.new.store in
     let told = subst (λ t. Next (sees g at t) l.limit (left (sees g at t) (take l.len l.work)) items (store.metered l.store) n None) l.invariant.table c.in_default.ensures.next in
-    let e = concludes lt t dist bound q.from q.own q.k q.confirming (fair g at) c.requires.count l.invariant.collected items n told in
+    let e = concludes lt t dist bound q.from q.own q.k q.confirming (fair g at) a.self.now.counted l.invariant.collected items n told in
     record { table = c.next_label.ensures.table ∙ l.invariant.table; frames = c.next_label.ensures.frames ∙ l.invariant.frames; told = e.0; answers = e.1; metered = e.2 }

@@ -3,12 +3,12 @@ use Rattle.index.specs.Table.{Table, node_at, node_count}
 use Rattle.neighbours.specs.declared.item.Item.{Item}
 use Rattle.neighbours.specs.Items.{ahead}
 use Rattle.neighbours.specs.Scene.{Scene, left}
-use Rattle.neighbours.proofs.Scenes.{Fair}
+use Rattle.neighbours.proofs.Scenes.{Fair, Taken}
 use Rattle.search.specs.Entering.{Entered}
 use Rattle.search.specs.Sights.{seen, items_seen}
 use Rattle.search.proofs.Steps.{Walked, fair-scene, taken, walked-within, walked-room, walked-meter, walked_more, walked-shorter, walked-node, walked-label, walked-stops, walked-ends}
 use Rattle.search.proofs.sight.Sight.next_label.Given.{Over}
-use Rattle.search.proofs.sight.Sight.next_label.Goals.{Start}
+use Rattle.search.proofs.sight.Sight.next_label.Goals.{Start, In-Some}
 use Rattle.search.proofs.sight.Sight.next_label.Goals as goal
 
 abbrev sees : (g : Over) → Start g → Table → Scene g.row.M-Distance.Denot
@@ -23,18 +23,22 @@ fair g c = fair-scene g.met.M.Distance.Ranked.ordered _ _ _ _ (g.met.M.Measure.b
 abbrev before : (g : Over) → Start g → List (Item g.row.M-Distance.Denot)
 before g c = left (here g c) (take c.args.len c.args.items.now)
 
+-- what `pop` took off the queue
+took : (g : Over) (c : In-Some g) → Taken (seen g.M.Distance.Ranked.precedes g.M.Measure.dist g.M.Measure.bound c.args.self.now (g.S.NodeStore.table c.args.store.now)) c.loop-x.items c.pop.new.items c.loop-x.waiting c.in-Some.rest c.in-Some.x
+took g c = taken _ _ _ _ (c.in-Some.x, c.in-Some.rest) c.loop-x.invariant.walked.waits (omega arith) c.in-Some.ensures.told c.in-Some.ensures.queue.0
+
 pub returns-then-not-admits : goal.returns-then-not-admits
 returns-then-not-admits g c =
     let at = (goal.at.returns-then-not-admits g c).Start in
     let l = c.loop-x in
-    let t = taken (here g at) l.items c.pop.new.items l.waiting (c.in-Some.x, c.in-Some.rest) l.invariant.walked.waits (omega arith) c.in-Some.ensures.told c.in-Some.ensures.queue.0 in
+    let t = took g (goal.at.returns-then-not-admits g c).In-Some in
     record { table = l.invariant.table; frames = l.invariant.frames; next = walked-stops (here g at) (fair g at) c.args.limit (before g at) l.invariant.walked t (sym c.admits.ensures ∙ c.if-not-admits.true) }
 
 pub returns-in-OfLabel : goal.returns-in-OfLabel
 returns-in-OfLabel g c =
     let at = (goal.at.returns-in-OfLabel g c).Start in
     let l = c.loop-x in
-    let t = taken (here g at) l.items c.pop.new.items l.waiting (c.in-Some.x, c.in-Some.rest) l.invariant.walked.waits (omega arith) c.in-Some.ensures.told c.in-Some.ensures.queue.0 in
+    let t = took g (goal.at.returns-in-OfLabel g c).In-Some in
     record { table = l.invariant.table; frames = l.invariant.frames; next = walked-label (here g at) (fair g at) c.args.limit (before g at) l.invariant.walked t c.in-OfLabel.label c.in-OfLabel.is (sym c.admits.ensures ∙ c.if-not-admits.false) }
 
 pub open_node-waiting-requires : goal.open_node-waiting-requires
@@ -44,7 +48,7 @@ open_node-waiting-requires g c =
     let l = c.loop-x in
     let w = l.invariant.walked in
     let same = sym l.invariant.table in
-    let t = taken (here g at) l.items c.pop.new.items l.waiting (c.in-Some.x, c.in-Some.rest) w.waits (omega arith) c.in-Some.ensures.told c.in-Some.ensures.queue.0 in
+    let t = took g (goal.at.open_node-waiting-requires g c).In-Some in
     let node = c.in-OfNode.node in
     record {
       node = subst (λ t. node < node_count t) same (walked-within (here g at) (fair g at) a.limit (before g at) w t node c.in-OfNode.is);
@@ -57,7 +61,7 @@ pub loop-x-smaller : goal.loop-x-smaller
 loop-x-smaller g c =
     let at = (goal.at.loop-x-smaller g c).Start in
     let l = c.loop-x in
-    let t = taken (here g at) l.items c.pop.new.items l.waiting (c.in-Some.x, c.in-Some.rest) l.invariant.walked.waits (omega arith) c.in-Some.ensures.told c.in-Some.ensures.queue.0 in
+    let t = took g (goal.at.loop-x-smaller g c).In-Some in
     let node = c.in-OfNode.node in
     let zs = c.open_node-waiting.new.items in
     let r = c.open_node-waiting.result in
@@ -68,7 +72,7 @@ pub loop-x-preserved : goal.loop-x-preserved
 loop-x-preserved g c =
     let at = (goal.at.loop-x-preserved g c).Start in
     let l = c.loop-x in
-    let t = taken (here g at) l.items c.pop.new.items l.waiting (c.in-Some.x, c.in-Some.rest) l.invariant.walked.waits (omega arith) c.in-Some.ensures.told c.in-Some.ensures.queue.0 in
+    let t = took g (goal.at.loop-x-preserved g c).In-Some in
     let node = c.in-OfNode.node in
     let zs = c.open_node-waiting.new.items in
     let r = c.open_node-waiting.result in
