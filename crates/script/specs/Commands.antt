@@ -3,9 +3,11 @@ use Rattle.std.specs.Prelude.{◌≡◌, ℕ, List, [], ◌∷◌, map, length, 
 use Rattle.std.specs.Borrow.{Bor}
 use Rattle.std.specs.Int.{saturate_to_bits}
 use Rattle.std.specs.Str.Parse.{IsNumeral, without_leading_sign}
-use Rattle.std.specs.List.{AllByRecursion}
+use Rattle.std.specs.List.{AllByRecursion, find}
+use Rattle.std.specs.Option.{option_map}
+use Rattle.std.specs.Str.{bytes_eq}
 use Rattle.script.specs.declared.command.Command.{Command}
-use Rattle.script.specs.declared.command.Command.TheVariants.{Label, Plain, Grid, Image, Labels, Nodes, Ask, Measure, Limit}
+use Rattle.script.specs.declared.command.Command.TheVariants.{Label, Plain, Grid, Image, Labels, Nodes, Ask, Measure, Limit, Edit, Add, Withdraw, Cancel, Keep}
 use Rattle.script.specs.declared.command.Query.TheVariants.{Nearest, Mutual, Linked, Links}
 use Rattle.script.specs.declared.command.MeasureKind.{MeasureKind}
 use Rattle.script.specs.declared.command.MeasureKind.TheVariants.{Straight, Street, Tile}
@@ -53,8 +55,18 @@ abbrev pub Told : {V : Type 0} → (V → Type 0) → Option V → Type 0
 Told {V} P None = (v : V) → P v → ⊥
 Told P (Some v) = P v
 
+-- a label's number and its place
+abbrev pub placed_of : List ℤ → ℕ × ℤ × ℤ
+placed_of ns = (count ns 0, coordinate ns 1, coordinate ns 2)
+
 abbrev pub label_of : List ℤ → Command
 label_of ns = Label (count ns 0) (coordinate ns 1) (coordinate ns 2)
+
+abbrev pub add_of : List ℤ → Command
+add_of ns = Add (count ns 0) (coordinate ns 1) (coordinate ns 2)
+
+abbrev pub withdraw_of : List ℤ → Command
+withdraw_of ns = Withdraw (count ns 0)
 
 abbrev pub plain_of : List ℤ → Command
 plain_of ns = Plain (coordinate ns 0) (coordinate ns 1) (count ns 2)
@@ -91,6 +103,10 @@ list_word Numbers = codes "numbers"
 list_word Answers = codes "answers"
 list_word Work = codes "work"
 
+-- what a word is the name of, in a list of names
+abbrev pub named : {K : Type 0} → List (Bor (List ℕ) × K) → List ℕ → Option K
+named ns w = option_map (λ n. n.1) (find (λ n. bytes_eq n.0.now w) ns)
+
 -- the kind of a name, and an error where no kind has it
 abbrev pub Named : {K E : Type 0} → (K → List ℕ) → List ℕ → Result K E → Type 0
 Named {K} word_of w r = MatchResult r (λ k. w ≡ word_of k) (λ _. (k : K) → w ≡ word_of k → ⊥)
@@ -123,6 +139,11 @@ word_of (Ask (Linked n k l)) = codes "linked"
 word_of (Ask (Links k l)) = codes "links"
 word_of (Measure k) = codes "measure"
 word_of (Limit l n) = codes "limit"
+word_of Edit = codes "edit"
+word_of (Add n x y) = codes "add"
+word_of (Withdraw n) = codes "withdraw"
+word_of Cancel = codes "cancel"
+word_of Keep = codes "keep"
 
 -- the words behind its name say the rest of a command
 abbrev pub Behind : List (Bor (List ℕ)) → Command → Type 0
@@ -138,6 +159,11 @@ Behind ws (Ask (Linked n k l)) = Wholes 3 ws × (Ask (Linked n k l) ≡ linked_o
 Behind ws (Ask (Links k l)) = Wholes 2 ws × (Ask (Links k l) ≡ links_of (numbers_of ws))
 Behind ws (Measure k) = Measured ws (Measure k)
 Behind ws (Limit l n) = Limited ws (Limit l n)
+Behind ws Edit = length ws ≡ 0
+Behind ws (Add n x y) = Wholes 3 ws × (Add n x y ≡ add_of (numbers_of ws))
+Behind ws (Withdraw n) = Wholes 1 ws × (Withdraw n ≡ withdraw_of (numbers_of ws))
+Behind ws Cancel = length ws ≡ 0
+Behind ws Keep = length ws ≡ 0
 
 -- the words give the command: the first is its name, and the others say the rest
 abbrev pub Given : List (Bor (List ℕ)) → Command → Type 0

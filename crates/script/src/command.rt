@@ -1,7 +1,7 @@
 // The commands of a script.
 ghost use Rattle.std.specs.Prelude.{◌≡◌, length, take, drop, Some, codes};
 ghost use Rattle.std.specs.Option.{SomeIff};
-ghost use Rattle.script.specs.Commands.{Wholes, numbers_of, Own, own_of, Owned, Told, label_of, plain_of, grid_of, image_of, nearest_of, mutual_of, linked_of, links_of, Measured, Limited, Parsed};
+ghost use Rattle.script.specs.Commands.{Wholes, numbers_of, Own, own_of, Owned, Told, placed_of, label_of, plain_of, grid_of, image_of, nearest_of, mutual_of, linked_of, links_of, add_of, withdraw_of, Measured, Limited, Parsed, named};
 
 use crate::number::{to_i32, to_u32, whole};
 use std::error::Error;
@@ -22,6 +22,14 @@ impl fmt::Display for UnknownName {
 
 impl Error for UnknownName {}
 
+// What the word is the name of, in a list of names.
+fn named<K: Copy>(names: &[(&str, K)], word: &str) -> Option<K>
+    ensures { result ≡ named names.now word.now }
+{
+    let (_, kind) = names.iter().copied().find(|(name, _)| *name == word)?;
+    Some(kind)
+}
+
 // A measure, by its name.
 #[derive(Clone, Copy, Debug, PartialEq, Eq)]
 pub enum MeasureKind {
@@ -29,6 +37,13 @@ pub enum MeasureKind {
     Street,
     Tile,
 }
+
+// The measures' names.
+const MEASURES: [(&str, MeasureKind); 3] = [
+    ("straight", MeasureKind::Straight),
+    ("street", MeasureKind::Street),
+    ("tile", MeasureKind::Tile),
+];
 
 impl FromStr for MeasureKind {
     type Err = UnknownName;
@@ -38,12 +53,7 @@ impl FromStr for MeasureKind {
     ghost from_str_gives = { Named kind_word };
 
     fn from_str(word: &str) -> Result<MeasureKind, UnknownName> {
-        match word {
-            "straight" => Ok(MeasureKind::Straight),
-            "street" => Ok(MeasureKind::Street),
-            "tile" => Ok(MeasureKind::Tile),
-            _ => Err(UnknownName),
-        }
+        named(&MEASURES, word).ok_or(UnknownName)
     }
 }
 
@@ -58,6 +68,13 @@ pub enum WorkList {
     Work,
 }
 
+// The lists' names.
+const LISTS: [(&str, WorkList); 3] = [
+    ("numbers", WorkList::Numbers),
+    ("answers", WorkList::Answers),
+    ("work", WorkList::Work),
+];
+
 impl FromStr for WorkList {
     type Err = UnknownName;
 
@@ -66,12 +83,7 @@ impl FromStr for WorkList {
     ghost from_str_gives = { Named list_word };
 
     fn from_str(word: &str) -> Result<WorkList, UnknownName> {
-        match word {
-            "numbers" => Ok(WorkList::Numbers),
-            "answers" => Ok(WorkList::Answers),
-            "work" => Ok(WorkList::Work),
-            _ => Err(UnknownName),
-        }
+        named(&LISTS, word).ok_or(UnknownName)
     }
 }
 
@@ -149,6 +161,22 @@ pub enum Command<'a> {
         list: WorkList,
         places: u32,
     },
+    // Opens an edit over the plan at hand.
+    Edit,
+    // Adds a label in the edit.
+    Add {
+        number: u32,
+        x: i32,
+        y: i32,
+    },
+    // Withdraws a label in the edit.
+    Withdraw {
+        number: u32,
+    },
+    // Drops the edit and all that was done in it.
+    Cancel,
+    // Keeps what was done in the edit.
+    Keep,
 }
 
 // The numbers that the words write, where there are `N` words and each is a whole number.
@@ -167,15 +195,37 @@ fn wholes<const N: usize>(words: &[&str]) -> Option<[i64; N]>
     Some(numbers)
 }
 
+// The number and the place of a label: NUMBER X Y.
+fn placed(words: &[&str]) -> Option<(u32, i32, i32)>
+    ensures { SomeIff result (Wholes 3 words.now) (placed_of (numbers_of words.now)) }
+{
+    let [number, x, y] = wholes::<3>(words)?;
+    Some((to_u32(number), to_i32(x), to_i32(y)))
+}
+
 // The words after `label`: NUMBER X Y.
 fn label<'a>(words: &[&'a str]) -> Option<Command<'a>>
     ensures { SomeIff result (Wholes 3 words.now) (label_of (numbers_of words.now)) }
 {
-    let [number, x, y] = wholes::<3>(words)?;
-    Some(Command::Label {
+    let (number, x, y) = placed(words)?;
+    Some(Command::Label { number, x, y })
+}
+
+// The words after `add`: NUMBER X Y.
+fn add<'a>(words: &[&'a str]) -> Option<Command<'a>>
+    ensures { SomeIff result (Wholes 3 words.now) (add_of (numbers_of words.now)) }
+{
+    let (number, x, y) = placed(words)?;
+    Some(Command::Add { number, x, y })
+}
+
+// The word after `withdraw`: NUMBER.
+fn withdraw<'a>(words: &[&'a str]) -> Option<Command<'a>>
+    ensures { SomeIff result (Wholes 1 words.now) (withdraw_of (numbers_of words.now)) }
+{
+    let [number] = wholes::<1>(words)?;
+    Some(Command::Withdraw {
         number: to_u32(number),
-        x: to_i32(x),
-        y: to_i32(y),
     })
 }
 
@@ -217,6 +267,7 @@ fn image<'a>(words: &[&'a str]) -> Option<Command<'a>>
 }
 
 // The number of the label that a place is that of: own NUMBER, or nothing.
+// The outer option tells whether the words fit, and the inner whether there is a number.
 fn own(words: &[&str]) -> Option<Option<u32>>
     ensures { SomeIff result (Own words.now) (own_of words.now) }
 {
@@ -328,9 +379,10 @@ fn alone<'a>(words: &[&'a str], command: Command<'a>) -> Option<Command<'a>>
 
 // What is expected where no command's name stands.
 const NAMES: &str =
-    "label, plain, lattice, image, labels, nodes, nearest, mutual, linked, links, measure or limit";
+    "label, plain, lattice, image, labels, nodes, nearest, mutual, linked, links, measure, limit, edit, add, withdraw, cancel or keep";
 
-// The command that the words of a line give, or what was expected in their place.
+// The command that the words of a line give, or what was expected in their place, in the words in which a script's
+// answer says it.
 pub fn parse<'a>(words: &[&'a str]) -> Result<Command<'a>, &'static str>
     ensures { Parsed words.now result }
 {
@@ -350,6 +402,11 @@ pub fn parse<'a>(words: &[&'a str]) -> Result<Command<'a>, &'static str>
         "links" => links(rest).ok_or("links K1 K2"),
         "measure" => measure(rest).ok_or("measure straight|street|tile"),
         "limit" => limit(rest).ok_or("limit numbers|answers|work N"),
+        "edit" => alone(rest, Command::Edit).ok_or("edit"),
+        "add" => add(rest).ok_or("add NUMBER X Y"),
+        "withdraw" => withdraw(rest).ok_or("withdraw NUMBER"),
+        "cancel" => alone(rest, Command::Cancel).ok_or("cancel"),
+        "keep" => alone(rest, Command::Keep).ok_or("keep"),
         _ => Err(NAMES),
     }
 }

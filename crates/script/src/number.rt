@@ -1,5 +1,5 @@
-// Whole numbers as a script writes them, and the nearest numbers of the types that the calls take. By hand: what is too
-// large is taken to the nearest number that fits, and the library's `parse` and `TryFrom` refuse it.
+// Whole numbers as a script writes them, and the nearest numbers of the types that the calls take. What is too large is
+// taken to the nearest number that fits: the library's `parse` refuses it, so a number is read by hand.
 ghost use Rattle.std.specs.Prelude.{◌≡◌, pos};
 ghost use Rattle.std.specs.Option.{SomeIff};
 ghost use Rattle.std.specs.Int.{saturate_to_bits};
@@ -21,7 +21,7 @@ fn size(digits: &[u8]) -> Option<i64>
         }
         n = n.saturating_mul(10).saturating_add(u64::from(*d - b'0'));
     }
-    Some(n.min(i64::MAX as u64) as i64)
+    Some(i64::try_from(n).unwrap_or(i64::MAX))
 }
 
 // A whole number in decimal, behind a sign or without one.
@@ -39,12 +39,12 @@ pub fn whole(word: &str) -> Option<i64>
 pub fn to_u32(n: i64) -> u32
     ensures { result ≡ nearest_u32 n }
 {
-    n.clamp(0, u32::MAX as i64) as u32
+    u32::try_from(n.max(0)).unwrap_or(u32::MAX)
 }
 
 // The nearest `i32`.
 pub fn to_i32(n: i64) -> i32
     ensures { result ≡ saturate_to_bits 31 n }
 {
-    n.clamp(i32::MIN as i64, i32::MAX as i64) as i32
+    i32::try_from(n).unwrap_or(if n < 0 { i32::MIN } else { i32::MAX })
 }

@@ -63,7 +63,8 @@ pub fn row<D: Shown>(heap: Global, name: &str, found: &[Found<D>]) -> Result<Str
     Ok(row)
 }
 
-// The labels' numbers and places, by number.
+// The labels' numbers and places, by number. Entries are what the lines are made of, and are compared in all their
+// fields: sorted labels would be taken apart for each line.
 fn by_number(heap: Global, labels: &[Label]) -> Result<Vec<(u32, i32, i32)>, AllocError>
     ensures { IfOk result (λ v. ByNumber labels.now v.items) }
 {
@@ -75,7 +76,7 @@ fn by_number(heap: Global, labels: &[Label]) -> Result<Vec<(u32, i32, i32)>, All
     Ok(listed)
 }
 
-// The line of a label.
+// The line of a label. It is made here alone, as are those of nodes and slots, so that these types have no Display.
 fn label_line(heap: Global, number: u32, x: i32, y: i32) -> Result<String, AllocError>
     ensures { IfOk result (λ s. string_bytes s ≡ label_line (number, x, y)) }
 {

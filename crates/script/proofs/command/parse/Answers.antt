@@ -2,7 +2,7 @@ use Rattle.std.proofs.Common.{◌≡◌, ℕ, cond, List, [], ◌∷◌, drop, S
 use Rattle.std.specs.Option.{ok_or}
 use Rattle.std.specs.Str.{bytes_eq}
 use Rattle.script.specs.declared.command.Command.{Command}
-use Rattle.script.specs.declared.command.Command.TheVariants.{Label, Plain, Grid, Image, Labels, Nodes, Ask, Measure, Limit}
+use Rattle.script.specs.declared.command.Command.TheVariants.{Label, Plain, Grid, Image, Labels, Nodes, Ask, Measure, Limit, Edit, Add, Withdraw, Cancel, Keep}
 use Rattle.script.specs.declared.command.Query.TheVariants.{Nearest, Mutual, Linked, Links}
 use Rattle.script.specs.Commands.{Told, Measured, Limited, Behind, Parsed, name_of, word_of, image_of}
 use Rattle.script.proofs.Lists.{behind, named}
@@ -28,6 +28,11 @@ says ds (Ask (Linked n k l)) h = tt
 says ds (Ask (Links k l)) h = tt
 says ds (Measure k) h = h
 says ds (Limit l n) h = h
+says ds Edit h = tt
+says ds (Add n x y) h = tt
+says ds (Withdraw n) h = tt
+says ds Cancel h = tt
+says ds Keep h = tt
 
 -- what the words behind the name give, the line's words give
 parsed : {E : Type 0} (w : List ℕ) (ws : List (Bor (List ℕ))) (o : Option Command) (e : E) (r : Result Command E) → r ≡ ok_or o e → name_of ws ≡ w → Told (Says w (drop 1 ws)) o → ((c : Command) → Says w (drop 1 ws) c → (w ≡ word_of c) × Behind (drop 1 ws) c) → Parsed ws r
