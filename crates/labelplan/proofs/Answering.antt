@@ -19,7 +19,7 @@ use Rattle.labelplan.specs.Asked.{LinkedEnds, NumberEnds}
 -- the answers are at the front of the list, and the query told how many they are and how many nodes it opened
 told-all : (e : Option Refusal) (ns before after items : List ℕ) (opened : ℕ) (t : Told) → Ok t ≡ outcome e ns opened (length before) → after ≡ filled e ns before → items ≡ take t.count after
     → (outcome e ns opened (length before) ≡ Ok (record { count = length items; opened = t.opened })) × (items ≡ ns)
-told-all (Some e) ns before after items opened t h f a = let z : ◌≡◌ {A = ℕ} 0 1 = cc in absurd (omega arith)
+told-all (Some e) ns before after items opened t h f a = absurd (cc)
 told-all None ns before after items opened t h f a = ⊎_elim
     (λ (fits : nat_le (length ns) (length before) ≡ true).
     let told = h ∙ cond-true (nat_le (length ns) (length before)) _ _ fits in
@@ -30,7 +30,7 @@ told-all None ns before after items opened t h f a = ⊎_elim
     (sym h ∙ (λ i. Ok (record { count = (count ∙ ap length (sym front)) i; opened = t.opened })), front))
     (λ (full : nat_le (length ns) (length before) ≡ false).
     let told = h ∙ cond-false (nat_le (length ns) (length before)) _ _ full in
-    let z : ◌≡◌ {A = ℕ} 0 1 = cc in absurd (omega arith))
+    absurd (cc))
     (cases_Bool (nat_le (length ns) (length before)))
 
 -- the same by the lengths that were asked for, of the two work lists and of the answer list

@@ -1,2 +1,4 @@
 pub mod Nodes
 pub mod Asked
+pub mod Piles
+pub mod Edits

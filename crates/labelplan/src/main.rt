@@ -1,12 +1,15 @@
 // Runs a script of commands on a map's labels, one command to a line: `labelplan [FILE]`.
 #![tactic(auto)]
 
+use pile::{Editable, Pile};
 use session::Session;
 use std::env;
 use std::fs::File;
 use std::io::{BufRead, BufReader};
 use std::str::from_utf8;
 
+mod forwarding;
+mod pile;
 mod plan;
 mod query;
 mod session;
@@ -19,9 +22,9 @@ fn said(line: &str) -> &str {
     }
 }
 
-// Echoes each line of the script that says something, and prints what comes of it.
-fn follow<R: BufRead + Drop>(rt: &HostRuntime, script: R) -> anyhow::Result<()> {
-    let mut session = Session::new(rt);
+// Echoes each line of the script that says something, and prints what comes of it. The plans at hand are of the type `P`.
+fn follow<P: Editable, R: BufRead + Drop>(rt: &HostRuntime, script: R) -> anyhow::Result<()> {
+    let mut session: Session<P> = Session::new(rt);
     for (number, line) in (1..u64::MAX).zip(script.split(rt.alloc(), b'\n')) {
         let line = line?;
         let Ok(text) = from_utf8(line.as_slice()) else {
@@ -37,14 +40,15 @@ fn follow<R: BufRead + Drop>(rt: &HostRuntime, script: R) -> anyhow::Result<()> 
     Ok(())
 }
 
-// Follows the script in the file that the first argument names, or else on standard input.
-fn run(rt: &HostRuntime) -> anyhow::Result<()> {
+// Follows the script in the file that the first argument names, or else on standard input, with plans at hand of the type
+// `P`.
+fn run<P: Editable>(rt: &HostRuntime) -> anyhow::Result<()> {
     match env::args(rt)?.nth(1) {
-        Some(path) => follow(rt, BufReader::new(rt.alloc(), File::open(rt, path)?)?),
-        None => follow(rt, BufReader::new(rt.alloc(), rt.stdin())?),
+        Some(path) => follow::<P, _>(rt, BufReader::new(rt.alloc(), File::open(rt, path)?)?),
+        None => follow::<P, _>(rt, BufReader::new(rt.alloc(), rt.stdin())?),
     }
 }
 
 fn main(rt: HostRuntime) -> anyhow::Result<()> {
-    run(&rt)
+    run::<Pile>(&rt)
 }

@@ -1,17 +1,15 @@
 // The plan at hand: a node store, read through its nodes.
-ghost use Rattle.std.specs.Prelude.{◌≡◌, ◌++◌, map, not, IfOk, OnOk, string_bytes, vec_items};
-ghost use Rattle.std.specs.List.{range_with_len};
-ghost use Rattle.index.specs.Table.{slot_at, labels_in, plan};
+ghost use Rattle.std.specs.Prelude.{◌≡◌, ◌++◌, not, IfOk, OnOk, string_bytes, vec_items};
+ghost use Rattle.index.specs.Table.{labels_in, plan};
 ghost use Rattle.index.specs.Laws.{is_leaf};
 ghost use Rattle.labelplan.specs.Nodes.{node_text};
 
 use geometry::{Label, Rect};
 use image::ImageStore;
-use index::{NodeStore, SLOTS, Slot};
+use index::{NodeStore, Slot, open_slots};
 use lattice::Lattice;
 use script::report::{node_line, push_line, slot_entry};
 use std::alloc::{AllocError, Global};
-use std::array;
 
 pub mod store;
 
@@ -23,13 +21,6 @@ pub enum Plan<G, I> {
 
 // What the program's commands make.
 pub type MapPlan = Plan<Lattice, ImageStore>;
-
-// The slots of the open node.
-fn open_slots<S: NodeStore>(store: &S) -> [Slot; SLOTS]
-    ensures { result ≡ map (slot_at (S.table store.now) (S.opened store.now)) (range_with_len 0 SLOTS) }
-{
-    array::from_fn(|j| store.slot(j))
-}
 
 // Adds the labels of a node.
 fn add_labels(slots: &[Slot], labels: &mut Vec<Label>) -> Result<(), AllocError>
@@ -90,7 +81,7 @@ fn node_of(heap: Global, slots: &[Slot], number: usize, around: Rect) -> Result<
     Ok(line)
 }
 
-// A line for each node of a store. A branch leads to a greater node, whose box is known when its turn comes.
+// A line for each node of a store. It goes over the nodes as `labels_of` does; what both share is how one is read. A branch leads to a greater node, whose box is known when its turn comes.
 pub fn nodes_of<S: NodeStore>(heap: Global, store: &mut S) -> Result<String, AllocError>
     ensures { S.table store.new ≡ S.table store.old }
 {

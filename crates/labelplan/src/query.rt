@@ -1,15 +1,16 @@
-// Queries over a store, with lists made for each.
+// Queries over a store, with lists made for each. That a query keeps the plan's table is said in each contract: no type
+// can say it of a store that is lent.
 ghost use Rattle.std.specs.Prelude.{◌≡◌, ◌*◌, length, take, fold, IfOk, OnOk, string_bytes, ◌==◌};
 ghost use Rattle.std.specs.List.{find};
 ghost use Rattle.std.specs.List.Sorted.{IsPermutation};
 ghost use Rattle.index.specs.Table.{node_count, plan};
 ghost use Rattle.neighbours.specs.Ranking.{ranking};
 ghost use Rattle.neighbours.specs.Scene.{work_places};
-ghost use Rattle.labelplan.specs.Asked.{lent, work_length, answer_length, NearestEnds, MutualEnds, LinkedEnds, NumberEnds};
+ghost use Rattle.labelplan.specs.Asked.{work_length, answer_length, NearestEnds, MutualEnds, LinkedEnds, NumberEnds};
 ghost use Rattle.script.specs.Report.{line_after, answers_line, opened_line, link_line};
 
 use crate::plan::labels_of;
-use geometry::{Label, Reason, Refusal};
+use geometry::{Label, Reason};
 use index::{NodeStore, SLOTS};
 use listing::Failure;
 use measure::Measure;
@@ -22,8 +23,8 @@ use std::alloc::{AllocError, Global};
 // How many places the lists have that are lent to a query: as many as it can need, unless a number is set.
 #[derive(Clone, Copy)]
 pub struct Lengths {
-    pub answers: Option<u32>,
-    pub work: Option<u32>,
+    pub answers: Option<usize>,
+    pub work: Option<usize>,
 }
 
 // What an accepted query told: its answers, and how many nodes it opened.
@@ -31,13 +32,6 @@ pub struct Lengths {
 pub struct Answered {
     pub numbers: Vec<u32>,
     pub opened: u32,
-}
-
-// How long a list is that is lent: as set, or else as long as it can need to be.
-fn lent(set: Option<u32>, need: usize) -> usize
-    ensures { result ≡ lent set need }
-{
-    set.map_or(need, |places| places as usize)
 }
 
 // How a query is made: where its lists come from, by which measure it goes, and how long the lists are.
@@ -101,12 +95,13 @@ fn lines_of(heap: Global, answered: &Answered) -> Result<String, AllocError>
     Ok(lines)
 }
 
+// A query's numbers come one by one, as `nearest` and `mutual` take them: a struct of them would be taken apart at once.
 impl<M: Measure> Terms<'_, M> {
     // A work list for a query over the store.
     fn work_list<S: NodeStore>(&self, store: &S) -> Result<Vec<Item<M::Distance>>, AllocError>
         ensures { IfOk result (λ v. length v.items ≡ work_length self.now.lengths (S.table store.now)) }
     {
-        let places = lent(self.lengths.work, work_places(store));
+        let places = self.lengths.work.unwrap_or(work_places(store));
         vec![in self.heap; spare_item(self.measure); places]
     }
 
@@ -114,7 +109,7 @@ impl<M: Measure> Terms<'_, M> {
     fn answer_list<S: NodeStore>(&self, store: &S) -> Result<Vec<u32>, AllocError>
         ensures { IfOk result (λ v. length v.items ≡ answer_length self.now.lengths (S.table store.now)) }
     {
-        let places = lent(self.lengths.answers, SLOTS * store.node_count());
+        let places = self.lengths.answers.unwrap_or(SLOTS * store.node_count());
         vec![in self.heap; 0; places]
     }
 
@@ -205,10 +200,7 @@ impl<M: Measure> Terms<'_, M> {
     {
         let labels = labels_of(self.heap, store)?;
         let Some(label) = labelled(labels.as_slice(), number) else {
-            return Err(Failure::Refused(Refusal {
-                reason: Reason::NumberAbsent,
-                place: 0,
-            }));
+            return Err(Failure::Refused(Reason::NumberAbsent.into()));
         };
         self.linked_with(store, label, k1, k2)
     }

@@ -4,9 +4,10 @@ ghost use Rattle.geometry.specs.Plane.{place_at};
 ghost use Rattle.listing.specs.Neighbours.{listing};
 ghost use Rattle.script.specs.Report.{entry_of};
 
+use crate::pile::Editable;
 use crate::plan::{MapPlan, Plan, labels_of, nodes_of};
 use crate::query::{Lengths, Terms};
-use geometry::Label;
+use geometry::{Label, Refusal};
 use image::ImageStore;
 use lattice::Lattice;
 use listing::{Failure, LabelList, nearest_of};
@@ -19,26 +20,32 @@ use std::fs;
 // The longest list that is lent.
 const MOST_PLACES: u32 = 1_000_000;
 
+// What is said of a new plan where an edit is open.
+const AN_EDIT: &str = "an edit is open";
+
 // One run of a script: what its commands work on.
 #[derive(Drop)]
-pub struct Session<'a> {
+pub struct Session<'a, P> {
     rt: &'a HostRuntime,
     heap: Global,
+    // the line of the script that is answered
+    line: u64,
     list: LabelList,
-    plan: Option<MapPlan>,
+    plan: Option<P>,
     // the measure of the queries
     kind: MeasureKind,
     // how many places the number list has that an image is opened with
-    numbers: u32,
+    numbers: usize,
     lengths: Lengths,
 }
 
-impl<'a> Session<'a> {
-    pub fn new(rt: &'a HostRuntime) -> Session<'a> {
+impl<'a, P: Editable> Session<'a, P> {
+    pub fn new(rt: &'a HostRuntime) -> Session<'a, P> {
         let heap = rt.alloc();
         Session {
             rt,
             heap,
+            line: 0,
             list: LabelList::new(heap),
             plan: None,
             kind: MeasureKind::Straight,
@@ -52,6 +59,7 @@ impl<'a> Session<'a> {
 
     // What comes of the command in `text`, which stands on that line of the script.
     pub fn answer(&mut self, line: u64, text: &str) -> Result<String, AllocError> {
+        self.line = line;
         let words: Vec<&str> = text.split_whitespace().collect(self.heap)?;
         let command = match parse(words.as_slice()) {
             Ok(command) => command,
@@ -76,18 +84,30 @@ impl<'a> Session<'a> {
                 x,
                 y,
                 first,
-            } => self.take_plan(Plan::Grid(Lattice::new(rows, columns, step, x, y, first)?)),
+            } => self.grid(rows, columns, step, x, y, first),
             Command::Image { path } => self.image(path),
             Command::Labels => self.labels(),
             Command::Nodes => self.nodes(),
             Command::Ask(query) => self.ask(query),
             Command::Measure { kind } => self.measure(kind),
-            Command::Limit { list, places } => self.limit(list, places.min(MOST_PLACES)),
+            // No `From` takes a `u32` to a `usize`.
+            Command::Limit { list, places } => self.limit(list, places.min(MOST_PLACES) as usize),
+            Command::Edit => self.edit(),
+            Command::Add { number, x, y } => self.add(number, x, y),
+            Command::Withdraw { number } => self.withdraw(number),
+            Command::Cancel => self.cancel(),
+            Command::Keep => self.keep(),
         }
     }
 
     fn say(&self, text: &str) -> Result<String, Failure> {
         Ok(String::from_str(self.heap, text)?)
+    }
+
+    // Says that the command cannot be given where the script gives it.
+    fn decline(&self, words: &str) -> Result<String, Failure> {
+        let line = self.line;
+        Ok(format!(in self.heap; "line {line}: {words}")?)
     }
 
     // Adds a label to the list.
@@ -113,20 +133,44 @@ impl<'a> Session<'a> {
         rows(self.heap, labels.as_slice(), x, y, k)
     }
 
-    // Puts a plan in the place of the plan at hand.
+    // Whether an edit is open.
+    fn is_open(&self) -> bool {
+        self.plan.as_ref().is_some_and(|pile| pile.is_open())
+    }
+
+    // Puts a plan in the place of the plan at hand and of the edits over it.
     fn take_plan(&mut self, plan: MapPlan) -> Result<String, Failure> {
-        self.plan = Some(plan);
+        self.plan = Some(P::on(plan));
         self.say("ok")
+    }
+
+    // Makes a lattice.
+    fn grid(
+        &mut self,
+        rows: u32,
+        columns: u32,
+        step: u32,
+        x: i32,
+        y: i32,
+        first: u32,
+    ) -> Result<String, Failure> {
+        if self.is_open() {
+            return self.decline(AN_EDIT);
+        }
+        self.take_plan(Plan::Grid(Lattice::new(rows, columns, step, x, y, first)?))
     }
 
     // Opens a file as an image.
     fn image(&mut self, path: &str) -> Result<String, Failure> {
+        if self.is_open() {
+            return self.decline(AN_EDIT);
+        }
         let heap = self.heap;
         let Ok(bytes) = fs::read(self.rt, path) else {
             return Ok(format!(in heap; "cannot read {path}")?);
         };
         let mut store = ImageStore::new(heap)?;
-        let mut numbers = vec![in heap; 0; self.numbers as usize]?;
+        let mut numbers = vec![in heap; 0; self.numbers]?;
         store.open_image(bytes.as_slice(), numbers.as_mut_slice())?;
         self.take_plan(Plan::Image(store))
     }
@@ -147,28 +191,22 @@ impl<'a> Session<'a> {
 
     // What a query over the plan at hand answers.
     fn ask(&mut self, query: Query) -> Result<String, Failure> {
-        let (heap, lengths) = (self.heap, self.lengths);
+        match self.kind {
+            MeasureKind::Straight => self.ask_by(&Straight, query),
+            MeasureKind::Street => self.ask_by(&Street, query),
+            MeasureKind::Tile => self.ask_by(&Tile, query),
+        }
+    }
+
+    // The same by a measure.
+    fn ask_by<M: Measure>(&mut self, measure: &M, query: Query) -> Result<String, Failure> {
+        let terms = Terms {
+            heap: self.heap,
+            measure,
+            lengths: self.lengths,
+        };
         match &mut self.plan {
-            Some(plan) => match self.kind {
-                MeasureKind::Straight => Terms {
-                    heap,
-                    measure: &Straight,
-                    lengths,
-                }
-                .answer(plan, query),
-                MeasureKind::Street => Terms {
-                    heap,
-                    measure: &Street,
-                    lengths,
-                }
-                .answer(plan, query),
-                MeasureKind::Tile => Terms {
-                    heap,
-                    measure: &Tile,
-                    lengths,
-                }
-                .answer(plan, query),
-            },
+            Some(plan) => terms.answer(plan, query),
             None => self.say("no plan is at hand"),
         }
     }
@@ -180,13 +218,64 @@ impl<'a> Session<'a> {
     }
 
     // Sets how many places a list has.
-    fn limit(&mut self, list: WorkList, places: u32) -> Result<String, Failure> {
+    fn limit(&mut self, list: WorkList, places: usize) -> Result<String, Failure> {
         match list {
             WorkList::Numbers => self.numbers = places,
             WorkList::Answers => self.lengths.answers = Some(places),
             WorkList::Work => self.lengths.work = Some(places),
         }
         self.say("ok")
+    }
+
+    // Opens an edit over the plan at hand.
+    fn edit(&mut self) -> Result<String, Failure> {
+        let Some(pile) = self.plan.take() else {
+            return self.decline("no plan is at hand");
+        };
+        let room = pile.has_room();
+        self.plan = Some(pile.begin(self.heap)?);
+        if room {
+            self.say("ok")
+        } else {
+            self.decline("eight edits lie one over another already")
+        }
+    }
+
+    // Says how a change ended in the edit that is open, if one is.
+    fn tell(&self, ended: Option<Result<(), Refusal>>) -> Result<String, Failure> {
+        let Some(ended) = ended else {
+            return self.decline("no edit is open");
+        };
+        ended?;
+        self.say("ok")
+    }
+
+    // Adds a label in the edit.
+    fn add(&mut self, number: u32, x: i32, y: i32) -> Result<String, Failure> {
+        let ended = self.plan.as_mut().and_then(|pile| pile.add(number, x, y));
+        self.tell(ended)
+    }
+
+    // Withdraws a label in the edit.
+    fn withdraw(&mut self, number: u32) -> Result<String, Failure> {
+        let ended = self.plan.as_mut().and_then(|pile| pile.withdraw(number));
+        self.tell(ended)
+    }
+
+    // Cancels the edit.
+    fn cancel(&mut self) -> Result<String, Failure> {
+        let open = self.is_open();
+        self.plan = self.plan.take().map(|pile| pile.cancel());
+        self.tell(open.then_some(Ok(())))
+    }
+
+    // Keeps the edit.
+    fn keep(&mut self) -> Result<String, Failure> {
+        let open = self.is_open();
+        if let Some(pile) = self.plan.take() {
+            self.plan = Some(pile.keep(self.heap)?);
+        }
+        self.tell(open.then_some(Ok(())))
     }
 }
 
@@ -206,7 +295,8 @@ fn row_by<M: Measure<Distance: Shown>>(
     Ok(row(heap, name, found.as_slice())?)
 }
 
-// A row for each measure.
+// A row for each measure, by the names of `MEASURES` in `script`, which a measure's type does not tell. What the command
+// gave is passed on as it came.
 fn rows(heap: Global, labels: &[Label], x: i32, y: i32, k: u32) -> Result<String, Failure> {
     let straight = row_by(heap, "straight", &Straight, labels, x, y, k)?;
     let street = row_by(heap, "street", &Street, labels, x, y, k)?;

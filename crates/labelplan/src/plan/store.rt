@@ -1,10 +1,18 @@
 ghost use Rattle.labelplan.specs.declared.plan.Plan.TheVariants.{Grid, Image};
 
 use super::Plan;
+use crate::forwarding::in_each;
 use geometry::{Rect, Refusal};
 use index::{NodeStore, Slot};
 
-// A plan is read as the store that it is.
+// Asks the store that a plan is, of either kind, in the same words.
+macro_rules! on_store {
+    ($plan:expr, $store:ident => $said:expr) => {
+        in_each!($plan, Plan [Grid Image], $store => $said)
+    };
+}
+
+// A plan is read as the store that it is. A macro writes no ghost member, so each of these names both kinds.
 impl<G: NodeStore, I: NodeStore> NodeStore for Plan<G, I> {
     ghost table = { elim [ Grid s ↦ G.table s | Image s ↦ I.table s ] };
 
@@ -21,44 +29,26 @@ impl<G: NodeStore, I: NodeStore> NodeStore for Plan<G, I> {
     ghost bounded = { elim [ Grid s ↦ G.bounded s | Image s ↦ I.bounded s ] };
 
     fn node_count(&self) -> usize {
-        match self {
-            Plan::Grid(store) => store.node_count(),
-            Plan::Image(store) => store.node_count(),
-        }
+        on_store!(self, store => store.node_count())
     }
 
     fn root_box(&self) -> Rect {
-        match self {
-            Plan::Grid(store) => store.root_box(),
-            Plan::Image(store) => store.root_box(),
-        }
+        on_store!(self, store => store.root_box())
     }
 
     fn meter(&self) -> u32 {
-        match self {
-            Plan::Grid(store) => store.meter(),
-            Plan::Image(store) => store.meter(),
-        }
+        on_store!(self, store => store.meter())
     }
 
     fn slot(&self, j: usize) -> Slot {
-        match self {
-            Plan::Grid(store) => store.slot(j),
-            Plan::Image(store) => store.slot(j),
-        }
+        on_store!(self, store => store.slot(j))
     }
 
     fn zero(&mut self) {
-        match self {
-            Plan::Grid(store) => store.zero(),
-            Plan::Image(store) => store.zero(),
-        }
+        on_store!(self, store => store.zero())
     }
 
     fn open(&mut self, i: usize) -> Result<(), Refusal> {
-        match self {
-            Plan::Grid(store) => store.open(i),
-            Plan::Image(store) => store.open(i),
-        }
+        on_store!(self, store => store.open(i))
     }
 }

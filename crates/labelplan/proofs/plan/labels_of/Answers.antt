@@ -1,28 +1,20 @@
-use Rattle.std.proofs.Common.{◌≡◌, ℕ, ◌+◌, ◌<◌, List, [], ◌++◌, map, length, take, Some, Option, sym, refl, ap, ◌∙◌, arith}
+use Rattle.std.proofs.Common.{◌≡◌, ℕ, ◌+◌, ◌<◌, List, [], ◌++◌, map, take, Option, sym, refl, ap, ◌∙◌, arith}
 use Rattle.std.specs.List.{flat_map, range_with_len}
-use Rattle.std.proofs.ByRecursion.{All-get_or}
 use Rattle.std.proofs.lemmas.List.{take_all, take_more, flat_map_more}
-use Rattle.std.proofs.lemmas.List.FromFn.{fill_by_all}
 use Rattle.geometry.specs.declared.label.Label.{Label}
 use Rattle.index.specs.declared.slot.Slot.{Slot}
-use Rattle.index.specs.declared.slot.Slot.TheVariants.{Empty}
 use Rattle.index.specs.Table.{Table, node_count, node_at, slot_at, labels_in, plan}
 use Rattle.index.specs.Laws.{Lawful}
 use Rattle.index.specs.Opening.{open_node, open_meter}
-use Rattle.index.proofs.Opened.{opens-node}
+use Rattle.index.proofs.Opened.{opens-node, slots-read}
 use Rattle.labelplan.proofs.plan.labels_of.Goals as goal
-
--- the twelve slots of an open node are the node
-node : (t : Table) (i : ℕ) → Lawful t → i < node_count t → map (slot_at t (Some i)) (range_with_len 0 12) ≡ node_at t i
-node t i lawful h = sym (fill_by_all (slot_at t (Some i)) (node_at t i) 12 Empty (All-get_or (λ slots. length slots ≡ 12) t.nodes i [] h lawful.twelve) (λ k l. refl))
 
 -- one more node is opened, and its labels are added
 one_more : (t u : Table) (i m n : ℕ) (o p : Option ℕ) (slots : List Slot) (was next : List Label) → Lawful t → i < node_count t → m ≡ i → u ≡ t → p ≡ open_node t i m o → n ≡ open_meter t i m → slots ≡ map (slot_at u p) (range_with_len 0 12) → was ≡ flat_map labels_in (take i t.nodes) → next ≡ was ++ labels_in slots → (u ≡ t) × (n ≡ i + 1) × (next ≡ flat_map labels_in (take (i + 1) t.nodes))
 one_more t u i m n o p slots was next lawful h a b c d e inv put =
     let few = lawful.few in
     let opens = opens-node t i m o h (omega (arith, h, few, a)) in
-    let now : p ≡ Some i = c ∙ sym opens.1 in
-    let read : slots ≡ node_at t i = e ∙ (rw (b, now) (node t i lawful h)) in
+    let read = slots-read t u i m o p slots lawful h (omega (arith, h, few, a)) b c e in
     let more = take_more t.nodes i [] h in
     let onto = flat_map_more labels_in [] (take i t.nodes) (node_at t i) in
     (b, d ∙ sym opens.2 ∙ ap (λ k. k + 1) a, cc)
