@@ -1,8 +1,22 @@
 // The edges of the rules, run.
 #![tactic(auto)]
 
+pub mod chain;
+
+pub use chain::Chain;
+
+#[cfg(test)]
+mod chains;
+#[cfg(test)]
+mod edits;
+#[cfg(test)]
+mod queries;
+#[cfg(test)]
+mod shared;
+
 #[cfg(test)]
 mod tests {
+    use crate::shared::refused;
     use geometry::{Label, Place, Reason, Rect, Refusal};
     use image::ImageStore;
     use index::NodeStore;
@@ -13,11 +27,6 @@ mod tests {
     use std::alloc::Global;
     use std::process::Abort;
     use std::test::Fail;
-
-    // The number of a refusal, if it is one.
-    fn refused<T: Drop>(r: Result<T, Refusal>) -> Option<u32> {
-        r.err().map(|e| e.number())
-    }
 
     #[test]
     fn places_end_at_a_million(rt: HostRuntime) {
