@@ -86,6 +86,15 @@ mod tests {
         Ok(())
     }
 
+    // A call tells the type of pairs of plain numbers.
+    #[test]
+    fn pairs_are_queued_by_the_first_number(rt: HostRuntime) {
+        let mut items = [(0, 0); 2];
+        assert_eq!(rt; push(&mut items, 0, (3, 1)), Some(1));
+        assert_eq!(rt; push(&mut items, 1, (2, 9)), Some(2));
+        assert_eq!(rt; pop(&mut items, 2), Some(((2, 9), 1)));
+    }
+
     #[test]
     fn numbers_leave_the_queue_in_order(rt: HostRuntime) -> Result<(), Fail> {
         through(&rt, &mut [0; 4])

@@ -2,7 +2,7 @@ ghost use Rattle.std.specs.Prelude.{◌≡◌};
 ghost use Rattle.listing.specs.Neighbours.{closer};
 ghost use Rattle.listing.specs.Walking.{found-order};
 
-use queue::Ranked;
+use queue::{Ranked, by_first};
 
 // A label found: its distance from where the query stands, and its number.
 #[derive(Clone, Copy, Debug, PartialEq, Eq)]
@@ -17,6 +17,7 @@ impl<D: Ranked> Ranked for Found<D> {
     ghost ordered = { found-order D.Ranked.ordered };
 
     fn before(&self, other: &Found<D>) -> bool {
-        (self.distance, self.number).before(&(other.distance, other.number))
+        let (own, others) = ((self.distance, self.number), (other.distance, other.number));
+        by_first(own, others)
     }
 }

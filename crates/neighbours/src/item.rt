@@ -2,7 +2,7 @@ ghost use Rattle.neighbours.specs.Items.{subject_before, ahead};
 ghost use Rattle.neighbours.specs.Ordering.{subject-order, item-order};
 
 use geometry::Label;
-use queue::Ranked;
+use queue::{Ranked, by_first};
 
 // What an item of a search is: a node of the tree, or a label. Nodes come before labels, each kind by number; the place
 // comes last, so that labels that are level are the same.
@@ -36,6 +36,10 @@ impl<D: Ranked> Ranked for Item<D> {
     ghost ordered = { item-order D.Ranked.ordered };
 
     fn before(&self, other: &Item<D>) -> bool {
-        (self.distance, self.subject).before(&(other.distance, other.subject))
+        let (own, others) = (
+            (self.distance, self.subject),
+            (other.distance, other.subject),
+        );
+        by_first(own, others)
     }
 }

@@ -3,10 +3,10 @@
 #![tactic(auto)]
 
 ghost use Rattle.std.specs.Prelude.{◌≡◌, ℕ, ◌+◌, ◌-◌, ◌*◌, ◌/◌, ◌<◌, ◌≤◌, Bool, true, false, length, take, drop, nat_lt, slice_index_or};
-ghost use Rattle.queue.specs.Order.{Order, insert, sorted, by_first};
+ghost use Rattle.queue.specs.Order.{Order, insert, sorted, by_first, smaller};
 ghost use Rattle.queue.specs.Shape.{up, Heap, Loose, Least};
 ghost use Rattle.queue.specs.Calls.{pushed, popped, Pushed, Popped};
-ghost use Rattle.queue.specs.Numbers.{number-order, first-order};
+ghost use Rattle.queue.specs.Numbers.{number-order, pair-order};
 
 // A kind of item with a strict total order: two items neither of which is before the other are equal.
 pub trait Ranked: Copy {
@@ -18,8 +18,7 @@ pub trait Ranked: Copy {
     ghost ordered: { Order precedes };
 }
 
-// The impls for two kinds of numbers are alike: one for every kind that has `Ord` would overlap that for pairs, which
-// also orders pairs of kinds that have none.
+// The impls for two kinds of numbers are alike: one for every kind that has `Ord` would overlap that for pairs.
 impl Ranked for u64 {
     ghost precedes = { nat_lt };
 
@@ -40,14 +39,22 @@ impl Ranked for u32 {
     }
 }
 
-// Pairs by the first, and by the second where neither first comes before the other.
-impl<A: Ranked, B: Ranked> Ranked for (A, B) {
-    ghost precedes = { by_first A.precedes B.precedes };
+// Whether one pair comes before another: by the first, and by the second where neither first comes before the other.
+pub fn by_first<A: Ranked, B: Ranked>(a: (A, B), b: (A, B)) -> bool
+    ensures { result ≡ by_first A.precedes B.precedes a b }
+{
+    a.0.before(&b.0) || !b.0.before(&a.0) && a.1.before(&b.1)
+}
 
-    ghost ordered = { first-order A.ordered B.ordered };
+// Of pairs only those of two `u32` are items themselves, so that a call on pairs of plain numbers tells their type. What
+// is ordered by one thing and then by another is compared as the pair of both.
+impl Ranked for (u32, u32) {
+    ghost precedes = { smaller };
 
-    fn before(&self, other: &(A, B)) -> bool {
-        self.0.before(&other.0) || !other.0.before(&self.0) && self.1.before(&other.1)
+    ghost ordered = { pair-order };
+
+    fn before(&self, other: &(u32, u32)) -> bool {
+        by_first(*self, *other)
     }
 }
 
@@ -146,6 +153,7 @@ pub fn heapify<T: Ranked>(items: &mut [T])
 {
     // What counts up is the queue's length, which no iterator over the items gives.
     for len in 0..items.len() {
-        sift_up(items, len);
+        let x = items[len];
+        let _ = push(items, len, x);
     }
 }
