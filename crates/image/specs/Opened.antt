@@ -1,5 +1,5 @@
 -- The open node of an image, and its slots.
-use Rattle.std.specs.Prelude.{ℕ, Bool, true, ◌&&◌, Some, None, Ok, Err, Option, Result, ◌==◌, nat_lt}
+use Rattle.std.specs.Prelude.{ℕ, Bool, true, ◌&&◌, List, Some, None, Ok, Err, Option, Result, ◌==◌, nat_lt, slice_index}
 use Rattle.geometry.specs.declared.label.Label.{Label}
 use Rattle.geometry.specs.declared.rect.Rect.{Rect}
 use Rattle.geometry.specs.declared.refusal.Refusal.{Refusal}
@@ -17,6 +17,11 @@ has_open d (Some i) = nat_lt i d.nodes
 abbrev pub opens_at : Image → Option ℕ → ℕ → Bool
 opens_at d None e = true
 opens_at d (Some i) e = nat_lt i d.nodes && e == start d i
+
+-- the entry in slot 0 of the open node, as it is noted in the list of all nodes' starts
+abbrev pub noted : List ℕ → Option ℕ → ℕ
+noted starts None = 0
+noted starts (Some i) = slice_index starts i
 
 -- the slot of a label or a branch that was made, or an empty one
 abbrev pub label_slot : Result Label Refusal → Slot

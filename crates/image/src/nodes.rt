@@ -59,27 +59,34 @@ impl<'a> Reader<'a> {
     }
 
     // The entry in slot 0 of each node, and the entry after those of all nodes.
-    pub(crate) fn starts(self) -> [usize; STARTS]
+    pub(crate) fn starts(self) -> [u16; STARTS]
         ensures { (i : ℕ) → i ≤ self.entry.nodes → slice_index result i ≡ start (image_of self.entry.bytes.now) i }
     {
         let mut starts = [1; STARTS];
         // A node's count is read by its number, and each start is written from the one before it.
         for i in 0..self.nodes {
-            starts[i + 1] = starts[i] + usize::from(self.count(i));
+            starts[i + 1] = starts[i] + u16::from(self.count(i));
         }
         starts
+    }
+
+    // The entry after those of all nodes. It is added up without a list of starts, as long as the image may be refused.
+    fn end(self) -> usize
+        ensures { result ≡ start (image_of self.entry.bytes.now) self.entry.nodes }
+    {
+        let mut end = 1;
+        // A node's count is read by its number.
+        for i in 0..self.nodes {
+            end += usize::from(self.count(i));
+        }
+        end
     }
 
     // The counts come to the number of entries.
     pub(crate) fn check_sum(self) -> Result<(), Refusal>
         ensures { result ≡ as_result (unless (start (image_of self.entry.bytes.now) self.entry.nodes == self.entry.entries) (refusal BadSize self.entry.nodes)) }
     {
-        let starts = self.starts();
-        refuse_unless(
-            starts[self.nodes] == self.entries,
-            Reason::BadSize,
-            self.nodes,
-        )
+        refuse_unless(self.end() == self.entries, Reason::BadSize, self.nodes)
     }
 
     // Finds the node of each entry.
@@ -91,7 +98,9 @@ impl<'a> Reader<'a> {
         let starts = self.starts();
         // The node's number is what is written, so an iterator over the starts would have to count as well.
         for i in 0..self.nodes {
-            write_all(owners, starts[i], starts[i + 1], i);
+            let from = usize::from(starts[i]);
+            let to = usize::from(starts[i + 1]);
+            write_all(owners, from, to, i);
         }
         Entries {
             reader: self,

@@ -1,7 +1,8 @@
 ghost use Rattle.std.specs.Prelude.{◌≡◌};
 ghost use Rattle.image.specs.Layout.{image_of};
 ghost use Rattle.image.specs.Nodes.{table_of};
-ghost use Rattle.image.specs.Held.{has_open-inside, held-lawful};
+ghost use Rattle.image.specs.Opened.{noted};
+ghost use Rattle.image.specs.Held.{opens-inside, held-lawful};
 ghost use Rattle.std.proofs.Common.{rules, arith};
 
 use super::ImageStore;
@@ -17,7 +18,7 @@ impl NodeStore for ImageStore {
 
     ghost lawful = { λ s. held-lawful s.bytes.items s.fine };
 
-    ghost within = { λ s. has_open-inside (image_of s.bytes.items) s.openings.node s.within };
+    ghost within = { λ s. opens-inside (image_of s.bytes.items) s.openings.node (noted s.starts s.openings.node) s.within };
 
     ghost bounded = { first_of (Prim.search rules, Prim.grind (arith, Self.row.coded.inj)) };
 
@@ -36,7 +37,7 @@ impl NodeStore for ImageStore {
     fn slot(&self, j: usize) -> Slot {
         match self.openings.node() {
             None => Slot::Empty,
-            Some(i) => self.reader().slot(i, self.starts[i], j),
+            Some(i) => self.reader().slot(i, usize::from(self.starts[i]), j),
         }
     }
 

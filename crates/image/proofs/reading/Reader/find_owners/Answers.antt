@@ -1,4 +1,4 @@
-use Rattle.std.proofs.Common.{◌≡◌, ◌+◌, ◌≤◌, ap, arith}
+use Rattle.std.proofs.Common.{◌≡◌, ◌+◌, ◌≤◌, ap, ◌∙◌, arith}
 use Rattle.image.specs.Layout.{image_of}
 use Rattle.image.specs.Nodes.{start}
 use Rattle.image.specs.Owners.{start-zero}
@@ -10,8 +10,8 @@ write_all-requires c =
     let s = c.args.self in
     let d = image_of s.bytes.now in
     let i = c.loop-i.i in
-    let at = c.starts-starts.ensures i (omega (arith, c.loop-i-test.true)) in
-    let end = c.starts-starts.ensures (i + 1) (omega (arith, c.loop-i-test.true)) in
+    let at = c.from-from.ensures ∙ c.starts-starts.ensures i (omega (arith, c.loop-i-test.true)) in
+    let end = c.from-to.ensures ∙ c.starts-starts.ensures (i + 1) (omega (arith, c.loop-i-test.true)) in
     let within = start-within d i s.nodes s.entries c.loop-i-test.true c.requires.sum in
     (omega (arith, at, end, start-next d i), omega (arith, end, start-next d i, within, c.requires.room))
 
@@ -23,8 +23,8 @@ loop-i-preserved c =
     let s = c.args.self in
     let l = c.loop-i in
     let w = c.write_all in
-    let at = c.starts-starts.ensures l.i (omega (arith, c.loop-i-test.true)) in
-    let end = c.starts-starts.ensures (l.i + 1) (omega (arith, c.loop-i-test.true)) in
+    let at = c.from-from.ensures ∙ c.starts-starts.ensures l.i (omega (arith, c.loop-i-test.true)) in
+    let end = c.from-to.ensures ∙ c.starts-starts.ensures (l.i + 1) (omega (arith, c.loop-i-test.true)) in
     owners-more (image_of s.bytes.now) l.owners w.new.list s.nodes l.i _ _ s.sized.nodes c.loop-i-test.true at end l.invariant w.ensures.before w.ensures.within
 
 pub invariant_of-result : goal.invariant_of-result
