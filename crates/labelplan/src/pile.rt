@@ -1,11 +1,12 @@
 // The plan at hand with the edits over it: a type for each level, since an edit takes the store below.
-ghost use Rattle.std.specs.Prelude.{◌≡◌, ℕ, ◌+◌, ◌-◌, ◌≤◌, false, [], nat_lt, MatchBool, MatchOption, IfOk};
+ghost use Rattle.std.specs.Prelude.{◌≡◌, ℕ, ◌+◌, ◌-◌, ◌≤◌, false, [], nat_lt, MatchBool, MatchOption, IfOk, vec_items};
+ghost use Rattle.index.specs.Table.{plan};
 ghost use Rattle.runs.specs.Runs.{Step, state_of, opening, adding, withdrawing, keeping, cancelling};
 ghost use Rattle.labelplan.specs.Piles.{has_edit};
 
 use crate::plan::MapPlan;
 use edit::{Edit, Kept};
-use geometry::Refusal;
+use geometry::{Label, Refusal};
 use index::NodeStore;
 use std::alloc::{AllocError, Global};
 
@@ -40,6 +41,16 @@ pub trait Editable: NodeStore + Drop {
         ensures room { room result ≡ depth }
         ensures table { Self.table result ≡ ⟦<MapPlan as NodeStore>⟧.table plan }
         ensures frames { Self.frames result ≡ [] };
+
+    // The labels that it shows, from node to node. Which store shows them is asked here once, so that each has an arm of
+    // its own: asked through every level at each slot, it takes several times as long.
+    fn labels(&mut self, heap: Global) -> Result<Vec<Label>, AllocError>
+        ensures table { Self.table self.new ≡ Self.table self.old }
+        ensures labels { IfOk result (λ labels. vec_items labels ≡ plan (Self.table self.old)) };
+
+    // A line for each of its nodes, by arms for the same reason.
+    fn nodes(&mut self, heap: Global) -> Result<String, AllocError>
+        ensures { Self.table self.new ≡ Self.table self.old };
 
     fn has_room(&self) -> bool
         ensures { result ≡ nat_lt 0 (room self.now) };

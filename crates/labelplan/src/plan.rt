@@ -1,34 +1,37 @@
 // The plan at hand: a node store, read through its nodes.
-ghost use Rattle.std.specs.Prelude.{◌≡◌, ◌++◌, not, IfOk, OnOk, string_bytes, vec_items};
-ghost use Rattle.index.specs.Table.{labels_in, plan};
+ghost use Rattle.std.specs.Prelude.{◌≡◌, ◌++◌, not, map, IfOk, OnOk, string_bytes, vec_items};
+ghost use Rattle.std.specs.List.{range_with_len};
+ghost use Rattle.index.specs.Table.{slot_at, labels_in, plan};
 ghost use Rattle.index.specs.Laws.{is_leaf};
 ghost use Rattle.labelplan.specs.Nodes.{node_text};
 
 use geometry::{Label, Rect};
 use image::ImageStore;
-use index::{NodeStore, Slot, open_slots};
+use index::{NodeStore, SLOTS, Slot, open_slots};
 use lattice::Lattice;
 use script::report::{node_line, push_line, slot_entry};
 use std::alloc::{AllocError, Global};
 
 pub mod store;
 
+// The box keeps a plan small, which is moved through every level of a pile.
 #[derive(Drop)]
 pub enum Plan<G, I> {
     Grid(G),
-    Image(I),
+    Image(Box<I>),
 }
 
 // What the program's commands make.
 pub type MapPlan = Plan<Lattice, ImageStore>;
 
-// Adds the labels of a node.
-fn add_labels(slots: &[Slot], labels: &mut Vec<Label>) -> Result<(), AllocError>
-    ensures { OnOk result (vec_items labels.new ≡ vec_items labels.old ++ labels_in slots.now) }
+// Adds the labels of the open node.
+fn add_labels<S: NodeStore>(store: &S, labels: &mut Vec<Label>) -> Result<(), AllocError>
+    ensures { OnOk result (vec_items labels.new ≡ vec_items labels.old ++ labels_in (map (slot_at (S.table store.now) (S.opened store.now)) (range_with_len 0 SLOTS))) }
 {
-    for slot in slots {
-        if let Slot::Holds(label) = slot {
-            labels.push(*label)?;
+    // A store lends no list of slots, and one made for each node would take longer than to read them.
+    for j in 0..SLOTS {
+        if let Slot::Holds(label) = store.slot(j) {
+            labels.push(label)?;
         }
     }
     Ok(())
@@ -47,7 +50,7 @@ pub fn labels_of<S: NodeStore>(heap: Global, store: &mut S) -> Result<Vec<Label>
         let Ok(()) = store.open(i) else {
             unreachable!()
         };
-        add_labels(&open_slots(store), &mut labels)?;
+        add_labels(store, &mut labels)?;
     }
     Ok(labels)
 }
@@ -81,7 +84,8 @@ fn node_of(heap: Global, slots: &[Slot], number: usize, around: Rect) -> Result<
     Ok(line)
 }
 
-// A line for each node of a store. It goes over the nodes as `labels_of` does; what both share is how one is read. A branch leads to a greater node, whose box is known when its turn comes.
+// A line for each node of a store. It goes over the nodes as `labels_of` does, but needs the slots of each three times. A
+// branch leads to a greater node, whose box is known when its turn comes.
 pub fn nodes_of<S: NodeStore>(heap: Global, store: &mut S) -> Result<String, AllocError>
     ensures { S.table store.new ≡ S.table store.old }
 {

@@ -5,7 +5,7 @@ ghost use Rattle.listing.specs.Neighbours.{listing};
 ghost use Rattle.script.specs.Report.{entry_of};
 
 use crate::pile::Editable;
-use crate::plan::{MapPlan, Plan, labels_of, nodes_of};
+use crate::plan::{MapPlan, Plan};
 use crate::query::{Lengths, Terms};
 use geometry::{Label, Refusal};
 use image::ImageStore;
@@ -122,7 +122,7 @@ impl<'a, P: Editable> Session<'a, P> {
     // The labels of the plan at hand, or else of the list.
     fn labels_at_hand(&mut self) -> Result<Vec<Label>, AllocError> {
         match &mut self.plan {
-            Some(plan) => labels_of(self.heap, plan),
+            Some(plan) => plan.labels(self.heap),
             None => self.list.labels().iter().copied().collect(self.heap),
         }
     }
@@ -172,7 +172,7 @@ impl<'a, P: Editable> Session<'a, P> {
         let mut store = ImageStore::new(heap)?;
         let mut numbers = vec![in heap; 0; self.numbers]?;
         store.open_image(bytes.as_slice(), numbers.as_mut_slice())?;
-        self.take_plan(Plan::Image(store))
+        self.take_plan(Plan::Image(Box::new(heap, store)?))
     }
 
     // A line for each label, by number.
@@ -184,7 +184,7 @@ impl<'a, P: Editable> Session<'a, P> {
     // A line for each node.
     fn nodes(&mut self) -> Result<String, Failure> {
         match &mut self.plan {
-            Some(plan) => Ok(nodes_of(self.heap, plan)?),
+            Some(plan) => Ok(plan.nodes(self.heap)?),
             None => self.say("no plan is at hand"),
         }
     }

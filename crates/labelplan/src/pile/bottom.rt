@@ -1,6 +1,6 @@
 use super::Editable;
-use crate::plan::MapPlan;
-use geometry::Refusal;
+use crate::plan::{MapPlan, Plan, labels_of, nodes_of};
+use geometry::{Label, Refusal};
 use std::alloc::{AllocError, Global};
 
 // The plan itself takes no edit.
@@ -11,6 +11,20 @@ impl Editable for MapPlan {
 
     fn on(plan: MapPlan) -> MapPlan {
         plan
+    }
+
+    fn labels(&mut self, heap: Global) -> Result<Vec<Label>, AllocError> {
+        match self {
+            Plan::Grid(store) => labels_of(heap, store),
+            Plan::Image(store) => labels_of(heap, &mut **store),
+        }
+    }
+
+    fn nodes(&mut self, heap: Global) -> Result<String, AllocError> {
+        match self {
+            Plan::Grid(store) => nodes_of(heap, store),
+            Plan::Image(store) => nodes_of(heap, &mut **store),
+        }
     }
 
     fn has_room(&self) -> bool {

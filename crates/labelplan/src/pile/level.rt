@@ -2,9 +2,9 @@ ghost use Rattle.std.specs.Prelude.{◌+◌};
 ghost use Rattle.labelplan.specs.declared.pile.Layered.TheVariants.{Bare, Edited, Kept};
 
 use super::{Editable, Layered};
-use crate::plan::MapPlan;
+use crate::plan::{MapPlan, labels_of, nodes_of};
 use edit::Edit;
-use geometry::Refusal;
+use geometry::{Label, Refusal};
 use std::alloc::{AllocError, Global};
 
 // An edit is opened in the lowest level that is bare, so that all levels above the edit that was opened last are bare.
@@ -15,6 +15,22 @@ impl<S: Editable> Editable for Layered<S> {
 
     fn on(plan: MapPlan) -> Layered<S> {
         Layered::Bare(S::on(plan))
+    }
+
+    fn labels(&mut self, heap: Global) -> Result<Vec<Label>, AllocError> {
+        match self {
+            Layered::Bare(store) => store.labels(heap),
+            Layered::Edited(edit) => labels_of(heap, &mut **edit),
+            Layered::Kept(kept) => labels_of(heap, &mut **kept),
+        }
+    }
+
+    fn nodes(&mut self, heap: Global) -> Result<String, AllocError> {
+        match self {
+            Layered::Bare(store) => store.nodes(heap),
+            Layered::Edited(edit) => nodes_of(heap, &mut **edit),
+            Layered::Kept(kept) => nodes_of(heap, &mut **kept),
+        }
     }
 
     fn has_room(&self) -> bool {

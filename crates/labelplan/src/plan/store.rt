@@ -14,19 +14,19 @@ macro_rules! on_store {
 
 // A plan is read as the store that it is. A macro writes no ghost member, so each of these names both kinds.
 impl<G: NodeStore, I: NodeStore> NodeStore for Plan<G, I> {
-    ghost table = { elim [ Grid s ↦ G.table s | Image s ↦ I.table s ] };
+    ghost table = { elim [ Grid s ↦ G.table s | Image s ↦ I.table s.value ] };
 
-    ghost opened = { elim [ Grid s ↦ G.opened s | Image s ↦ I.opened s ] };
+    ghost opened = { elim [ Grid s ↦ G.opened s | Image s ↦ I.opened s.value ] };
 
-    ghost metered = { elim [ Grid s ↦ G.metered s | Image s ↦ I.metered s ] };
+    ghost metered = { elim [ Grid s ↦ G.metered s | Image s ↦ I.metered s.value ] };
 
-    ghost frames = { elim [ Grid s ↦ G.frames s | Image s ↦ I.frames s ] };
+    ghost frames = { elim [ Grid s ↦ G.frames s | Image s ↦ I.frames s.value ] };
 
-    ghost lawful = { elim [ Grid s ↦ G.lawful s | Image s ↦ I.lawful s ] };
+    ghost lawful = { elim [ Grid s ↦ G.lawful s | Image s ↦ I.lawful s.value ] };
 
-    ghost within = { elim [ Grid s ↦ G.within s | Image s ↦ I.within s ] };
+    ghost within = { elim [ Grid s ↦ G.within s | Image s ↦ I.within s.value ] };
 
-    ghost bounded = { elim [ Grid s ↦ G.bounded s | Image s ↦ I.bounded s ] };
+    ghost bounded = { elim [ Grid s ↦ G.bounded s | Image s ↦ I.bounded s.value ] };
 
     fn node_count(&self) -> usize {
         on_store!(self, store => store.node_count())

@@ -24,7 +24,7 @@ loop-i-preserved g c =
     let inv = c.loop-i.invariant in
     let nodes : c.node_count-i-end.result ≡ node_count (g.S.NodeStore.table c.args.store.now) = c.node_count-i-end.ensures ∙ ap node_count c.zero.ensures.table in
     let same : g.S.NodeStore.table c.open.new.self ≡ g.S.NodeStore.table c.args.store.now = c.open.ensures.table ∙ inv.0 in
-    one_more (g.S.NodeStore.table c.args.store.now) _ c.loop-i.i _ _ _ _ _ _ _ (g.met.S.NodeStore.lawful c.args.store.now) (omega (arith, nodes, c.loop-i-test.true)) inv.1 same (rw inv.0 at c.open.ensures.opened) (rw inv.0 at c.open.ensures.metered) c.open_slots.ensures inv.2 c.in_ok-add_labels.ensures
+    one_more (g.S.NodeStore.table c.args.store.now) _ c.loop-i.i _ _ _ _ _ _ _ (g.met.S.NodeStore.lawful c.args.store.now) (omega (arith, nodes, c.loop-i-test.true)) inv.1 same (rw inv.0 at c.open.ensures.opened) (rw inv.0 at c.open.ensures.metered) refl inv.2 c.in_ok-add_labels.ensures
 
 all : (t : Table) → flat_map labels_in t.nodes ≡ plan t
 unfolding plan
