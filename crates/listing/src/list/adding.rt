@@ -7,7 +7,8 @@ use crate::failure::Failure;
 use geometry::{Label, Reason};
 use std::alloc::Global;
 
-// Whether one of the labels has the number. By a `for`: compiled into a caller, `any` goes through the labels more slowly.
+// Whether one of the labels has the number. By a `for`: compiled into a caller, `any` goes through the labels more
+// slowly.
 fn is_present(labels: &[Label], number: u32) -> bool
     ensures { result ≡ present number labels.now }
 {
